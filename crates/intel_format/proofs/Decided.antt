@@ -1,0 +1,87 @@
+-- Each list of bytes is an update without a table or is none, and each date names a day or names none.
+use Rattle.std.proofs.Common.{◌≡◌, ◌⊎◌, inl, inr, ℕ, ◌+◌, ◌<◌, ◌≤◌, List, take, refl, arith, Bool, true, false, ℤ, ◌≤ℤ◌}
+use Rattle.std.proofs.lemmas.Bool.{cases_lt, cases_eq}
+use Rattle.std.proofs.Math.Dec.{T}
+use Rattle.std.specs.Int.Signed.{le_z}
+use Rattle.std.proofs.lemmas.List.{drop_all}
+use Rattle.uc_bytes.specs.Words.{word_sum_of}
+use Rattle.jiff_core.specs.Calendar.{IsDate, IsYear, IsBetween, days_in_month}
+use Rattle.intel_format.specs.declared.header.IntelHeader.{IntelHeader}
+use Rattle.intel_format.specs.Header.{header_of, data_len, total_len}
+use Rattle.intel_format.specs.Update.{IsSoundHeader, IsPlainUpdate}
+use Rattle.intel_format.specs.Date.{NamesDay, AreDigits, month_byte, day_byte, century_byte, year_byte, year_of, two_digits}
+
+-- a fact holds or does not
+abbrev pub Decided : Type 0 → Type 0
+Decided P = P ⊎ (P → ⊥)
+
+decided_le : (a b : ℕ) → Decided (a ≤ b)
+decided_le a b = elim (cases_lt b a) [ inl more ↦ inr (λ less. omega arith) | inr less ↦ inl less ]
+
+both : {P Q : Type 0} → Decided P → Decided Q → Decided (P × Q)
+both (inl p) (inl q) = inl (p, q)
+both (inl p) (inr not) = inr (λ (p, q). not q)
+both (inr not) q = inr (λ (p, q). not p)
+
+three : {P Q R : Type 0} → Decided P → Decided Q → Decided R → Decided (P × Q × R)
+three (inl p) (inl q) (inl r) = inl (p, q, r)
+three (inl p) (inl q) (inr not) = inr (λ (p, q, r). not r)
+three (inl p) (inr not) r = inr (λ (p, q, r). not q)
+three (inr not) q r = inr (λ (p, q, r). not p)
+
+same : {P Q : Type 0} → (P → Q) → (Q → P) → Decided P → Decided Q
+same to from (inl p) = inl (to p)
+same to from (inr not) = inr (λ q. not (from q))
+
+decided_digits : (byte : ℕ) → Decided (AreDigits byte)
+decided_digits byte = both (decided_le _ _) (decided_le _ _)
+
+decided_T : (b : Bool) → Decided (T b)
+decided_T true = inl tt
+decided_T false = inr (λ no. no)
+
+decided_signed : (a b : ℤ) → Decided (a ≤ℤ b)
+decided_signed a b = same (λ le. record { le = le }) (λ (le : a ≤ℤ b). le.le) (decided_T (le_z a b))
+
+decided_between : (low high z : ℤ) → Decided (IsBetween low high z)
+decided_between low high z = both (decided_signed low z) (decided_signed z high)
+
+decided_date : (y m d : ℤ) → Decided (IsDate y m d)
+decided_date y m d = three (decided_between _ _ y) (decided_between _ _ m) (decided_between _ _ d)
+
+-- a date names a day or names none
+pub decided_day : (date : ℕ) → Decided (NamesDay date)
+decided_day date =
+    same
+    (λ (month, day, years). record { month = month; day = day; century = years.0; year = years.1; in_calendar = years.2 })
+    (λ (names : NamesDay date). (names.month, names.day, (names.century, names.year, names.in_calendar)))
+    (three (decided_digits (month_byte date)) (decided_digits (day_byte date))
+    (three (decided_digits (century_byte date)) (decided_digits (year_byte date)) (decided_date _ _ _)))
+
+decided_equal : (a b : ℕ) → Decided (a ≡ b)
+decided_equal a b = cases_eq a b
+
+decided_sound : (h : IntelHeader) → Decided (IsSoundHeader h)
+decided_sound h =
+    same
+    (λ (even, fits, ones). record { data_even = even.0; total_even = even.1; header_fits = fits.0; data_fits = fits.1; version = ones.0; loader = ones.1 })
+    (λ (sound : IsSoundHeader h). ((sound.data_even, sound.total_even), (sound.header_fits, sound.data_fits), (sound.version, sound.loader)))
+    (three (both (decided_equal _ _) (decided_equal _ _)) (both (decided_le _ _) (decided_le _ _)) (both (decided_equal _ _) (decided_equal _ _)))
+
+-- bytes are an update without a table or are none
+pub decided_plain : (bytes : List ℕ) → Decided (IsPlainUpdate bytes (header_of bytes))
+decided_plain bytes =
+    let h = header_of bytes in
+    same
+    (λ (sound, lengths, sum). record {
+      update = record {
+        header = refl;
+        sound = sound;
+        whole = lengths.0;
+        sum = sum;
+        table = inl (drop_all (48 + data_len h) bytes (omega (arith, lengths.1)), refl);
+      };
+      no_table = lengths.1;
+    })
+    (λ (plain : IsPlainUpdate bytes h). (plain.update.sound, (plain.update.whole, plain.no_table), plain.update.sum))
+    (three (decided_sound h) (both (decided_equal _ _) (decided_equal _ _)) (decided_equal (word_sum_of (take (48 + data_len h) bytes)) 0))

@@ -1,0 +1,4 @@
+pub mod Checks
+pub mod Date
+pub mod Header
+pub mod Update

@@ -1,0 +1,5 @@
+use Rattle.tool_text.proofs.SomeText.{tool_text}
+use Rattle.tool_text.proofs.some_text.Goals as goal
+
+pub returns : goal.returns
+returns c = tool_text

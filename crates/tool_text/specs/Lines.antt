@@ -1,0 +1,90 @@
+-- The lines that are printed.
+use Rattle.std.specs.Prelude.{◌≡◌, ◌⊎◌, ℕ, ◌+◌, ◌/◌, ◌%◌, ◌==◌, List, [], ◌∷◌, ◌++◌, if◌then◌else◌, codes, decimal}
+use Rattle.std.specs.List.{flat_map}
+use Rattle.uc_bytes.specs.declared.causes.Vendor.{Vendor}
+use Rattle.uc_bytes.specs.declared.causes.Vendor.TheVariants.{Intel, Amd}
+use Rattle.uc_bytes.specs.declared.causes.FileCause.{FileCause}
+use Rattle.uc_bytes.specs.declared.causes.FileCause.TheVariants.{Short, SizeUnaligned, TotalSmall, DataPastTotal, Version, Truncated, ExtCut, ExtCount, ExtSum, EntrySum, Sum, EquivShort, Magic, EquivType, TableSmall, TableCut, SectionShort, SectionType, PatchSmall, PatchCut, FamilySize, Chipset, TooMany, TooLong, Later}
+use Rattle.uc_text.specs.Digits.{hex8_of}
+use Rattle.intel_format.specs.declared.header.IntelHeader.{IntelHeader}
+use Rattle.intel_format.specs.Header.{total_len}
+use Rattle.intel_format.specs.Date.{NamesDay, month_byte, day_byte, century_byte, year_byte}
+
+-- pieces of a text, one after another
+abbrev pub joined : List (List ℕ) → List ℕ
+joined pieces = flat_map (λ piece. piece) pieces
+
+-- Lines of errors.
+
+abbrev pub usage_line : ℕ → List ℕ
+usage_line k = joined (codes "usage " ∷ decimal k ∷ codes "\n" ∷ [])
+
+abbrev pub unread_line : List ℕ → List ℕ
+unread_line name = joined (codes "error read " ∷ name ∷ codes "\n" ∷ [])
+
+abbrev pub cause_text : FileCause → List ℕ
+cause_text Short = codes "short"
+cause_text SizeUnaligned = codes "size-unaligned"
+cause_text TotalSmall = codes "total-small"
+cause_text DataPastTotal = codes "data-past-total"
+cause_text Version = codes "version"
+cause_text Truncated = codes "truncated"
+cause_text ExtCut = codes "ext-cut"
+cause_text ExtCount = codes "ext-count"
+cause_text ExtSum = codes "ext-sum"
+cause_text (EntrySum i) = codes "entry-sum " ++ decimal i
+cause_text Sum = codes "sum"
+cause_text EquivShort = codes "equiv-short"
+cause_text Magic = codes "magic"
+cause_text EquivType = codes "equiv-type"
+cause_text TableSmall = codes "table-small"
+cause_text TableCut = codes "table-cut"
+cause_text SectionShort = codes "section-short"
+cause_text SectionType = codes "section-type"
+cause_text PatchSmall = codes "patch-small"
+cause_text PatchCut = codes "patch-cut"
+cause_text FamilySize = codes "family-size"
+cause_text Chipset = codes "chipset"
+cause_text TooMany = codes "too-many"
+cause_text TooLong = codes "too-long"
+cause_text Later = codes "later"
+
+-- a file that is refused: where, and for which cause
+unfoldable pub fault_line : List ℕ → ℕ → FileCause → List ℕ
+fault_line name offset cause =
+    joined (codes "error file " ∷ name ∷ codes " at " ∷ decimal offset ∷ codes " " ∷ cause_text cause ∷ codes "\n" ∷ [])
+
+-- Lines of a listing.
+
+abbrev pub vendor_text : Vendor → List ℕ
+vendor_text Intel = codes "intel"
+vendor_text Amd = codes "amd"
+
+-- a file by its number and name, with how many entries it has
+unfoldable pub file_line : ℕ → List ℕ → Vendor → ℕ → List ℕ
+file_line number name vendor entries =
+    joined (codes "file " ∷ decimal number ∷ codes " " ∷ name ∷ codes " " ∷ vendor_text vendor ∷ codes " " ∷ decimal entries ∷ codes "\n" ∷ [])
+
+-- the characters of the two decimal digits in a byte
+abbrev pub digit_pair : ℕ → List ℕ
+digit_pair byte = (48 + byte / 16) ∷ (48 + byte % 16) ∷ []
+
+-- year, month and day
+abbrev pub day_text : ℕ → List ℕ
+day_text date =
+    digit_pair (century_byte date) ++ digit_pair (year_byte date) ++ 45 ∷ digit_pair (month_byte date) ++ 45 ∷ digit_pair (day_byte date)
+
+-- the day that a date names, or a dash where it names none
+abbrev pub IsDateText : ℕ → List ℕ → Type 0
+IsDateText date text = (NamesDay date × (text ≡ day_text date)) ⊎ ((NamesDay date → ⊥) × (text ≡ codes "-"))
+
+-- the minimum revision, where there is one
+abbrev pub min_text : ℕ → List ℕ
+min_text min = if min == 0 then [] else codes " min " ++ hex8_of min
+
+-- an update by its number and where it begins in its file, with the text of its date
+unfoldable pub update_line : ℕ → ℕ → IntelHeader → List ℕ → List ℕ
+update_line number start h date =
+    joined
+    (decimal number ∷ codes " at " ∷ decimal start ∷ codes " len " ∷ decimal (total_len h) ∷ codes " rev " ∷ hex8_of h.rev ∷ codes " date " ∷ date
+    ∷ codes " sig " ∷ hex8_of h.sig ∷ codes " flags " ∷ hex8_of h.flags ∷ min_text h.min ∷ codes "\n" ∷ [])

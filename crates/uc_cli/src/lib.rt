@@ -1,0 +1,13 @@
+//! The top call of the program `ucode`: it reads the command line, runs the command, and hands what is printed to a
+//! sink.
+#![tactic(auto)]
+
+mod lines;
+mod list;
+mod reading;
+mod refusal;
+mod tool;
+mod words;
+
+pub use tool::run_tool;
+pub use top_call::Status;
