@@ -1,7 +1,8 @@
 ghost use Rattle.std.specs.Prelude.{◌≡◌, ℕ, List};
 ghost use Rattle.uc_io.specs.Reading.{IsReadOf};
+ghost use Rattle.uc_io.specs.declared.files.ReadAnswer.TheVariants.{NoMemory as NoMemoryAnswer};
 
-use std::alloc::Global;
+use std::alloc::{AllocError, Global};
 use thiserror::Error;
 
 /// Why a file was not read.
@@ -15,6 +16,14 @@ pub enum ReadAnswer {
     TooLong(u64),
     #[error("out of memory")]
     NoMemory,
+}
+
+impl From<AllocError> for ReadAnswer {
+    ghost from_gives = { λ _ answer. answer ≡ NoMemoryAnswer };
+
+    fn from(_error: AllocError) -> ReadAnswer {
+        ReadAnswer::NoMemory
+    }
 }
 
 /// Files that are read by name.

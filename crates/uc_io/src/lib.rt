@@ -6,9 +6,20 @@
 #![tactic(auto)]
 
 mod files;
+mod host_files;
 mod lines;
+mod memory_files;
+mod memory_sink;
+mod out_sink;
 mod sinks;
 
 pub use files::{Files, ReadAnswer};
+pub use host_files::HostFiles;
 pub use lines::write_line;
+pub use memory_files::MemFiles;
+pub use memory_sink::MemSink;
+pub use out_sink::OutSink;
 pub use sinks::{Sink, SinkFailed};
+
+#[cfg(test)]
+mod tests;

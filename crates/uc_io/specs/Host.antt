@@ -1,0 +1,12 @@
+-- What is known of the host's files and of standard output: how often they failed.
+use Rattle.std.specs.Prelude.{ℕ}
+use Rattle.uc_io.specs.declared.host_files.HostFiles.{HostFiles}
+use Rattle.uc_io.specs.declared.out_sink.OutSink.{OutSink}
+
+-- how many reads failed
+abbrev pub failed_reads_of : {R : Type 0} → HostFiles R → ℕ
+failed_reads_of files = files.faults
+
+-- how many writes failed
+abbrev pub failed_writes_of : {R : Type 0} → OutSink R → ℕ
+failed_writes_of sink = sink.faults
