@@ -11,3 +11,6 @@ mod words;
 
 pub use tool::run_tool;
 pub use top_call::Status;
+
+#[cfg(test)]
+mod tests;
