@@ -1,0 +1,169 @@
+ghost use Rattle.std.specs.Prelude.{◌≡◌, ◌+◌, ◌≤◌, length, take, drop};
+ghost use Rattle.std.specs.Iterator.{YieldsFirstBy, item_count};
+ghost use Rattle.std.specs.List.{position_or_len};
+ghost use Rattle.std.specs.Str.Lines.{strip_carriage_return};
+ghost use Rattle.uc_text.specs.Lines.{is_line_feed, is_blank, is_in_word, numbered_lines, words_of};
+
+use std::marker::Model;
+
+/// A line of a text: its number, from 1, and its bytes, without the LF that ends it and without one CR before that.
+#[derive(Clone, Copy, Debug)]
+pub struct Line<'a> {
+    pub number: u32,
+    pub text: &'a [u8],
+}
+
+/// The lines of a text: the pieces between LF bytes. An empty last piece is no line. One CR at the end of a line is
+/// dropped, also of a last line without LF. A contract sees the lines that are left, with their numbers.
+#[derive(Debug, Drop)]
+pub struct Lines<'a> {
+    rest: &'a [u8],
+    number: u32,
+}
+
+impl<'a> Model for Lines<'a> {
+    ghost use Rattle.std.specs.Prelude.{ℕ, ◌+◌, ◌≤◌, List, length};
+    ghost use Rattle.std.specs.List.{enumerate_from};
+    ghost use Rattle.uc_text.specs.Lines.{lines_of};
+
+    ghost Value = { List (ℕ × List ℕ) };
+
+    ghost view = { λ lines. enumerate_from lines.number (lines_of lines.rest.now) };
+
+    ghost invariant = { λ lines. lines.number + length lines.rest.now ≤ 16777217 };
+}
+
+impl<'a> Lines<'a> {
+    /// The lines of a text of at most 16,777,216 bytes.
+    pub fn new(bytes: &'a [u8]) -> Self
+        requires { length bytes.now ≤ 16777216 }
+        ensures { result ≡ numbered_lines bytes.now }
+    {
+        Lines {
+            rest: bytes,
+            number: 1,
+        }
+    }
+}
+
+impl<'a> Iterator for Lines<'a> {
+    type Item = Line<'a>;
+
+    ghost next_gives = { YieldsFirstBy (λ line. (line.number, line.text.now)) (λ lines. lines) };
+
+    ghost remaining = { item_count (λ lines. lines) };
+
+    fn next(&mut self) -> Option<Line<'a>> {
+        if self.rest.is_empty() {
+            return None;
+        }
+        let (piece, rest) = split_around(self.rest, line_feed_at(self.rest));
+        let line = Line {
+            number: self.number,
+            text: without_carriage_return(piece),
+        };
+        self.rest = rest;
+        self.number += 1;
+        Some(line)
+    }
+}
+
+/// Where the first LF stands, or the length where there is none.
+fn line_feed_at(bytes: &[u8]) -> usize
+    ensures value { result ≡ position_or_len is_line_feed bytes.now }
+    ensures within { result ≤ length bytes.now }
+{
+    bytes
+        .iter()
+        .position(|byte| *byte == b'\n')
+        .unwrap_or(bytes.len())
+}
+
+/// The bytes before a place and those after it; all of them, and none, where the place is the end.
+fn split_around(bytes: &[u8], at: usize) -> (&[u8], &[u8])
+    requires { at ≤ length bytes.now }
+    ensures front { result.0.now ≡ take at bytes.now }
+    ensures back { result.1.now ≡ drop (at + 1) bytes.now }
+{
+    let (front, back) = bytes.split_at(at);
+    match back {
+        [_, back @ ..] => (front, back),
+        [] => (front, back),
+    }
+}
+
+fn without_carriage_return(line: &[u8]) -> &[u8]
+    ensures { result.now ≡ strip_carriage_return line.now }
+{
+    match line {
+        [front @ .., b'\r'] => front,
+        _ => line,
+    }
+}
+
+/// The words of a text: the longest runs of bytes other than space and tab. A contract sees the words that are left.
+#[derive(Debug, Drop)]
+pub struct Words<'a> {
+    rest: &'a [u8],
+}
+
+impl<'a> Model for Words<'a> {
+    ghost use Rattle.std.specs.Prelude.{ℕ, List};
+    ghost use Rattle.uc_text.specs.Lines.{words_of};
+
+    ghost Value = { List (List ℕ) };
+
+    ghost view = { λ words. words_of words.rest.now };
+}
+
+impl<'a> Words<'a> {
+    pub fn new(text: &'a [u8]) -> Self
+        ensures { result ≡ words_of text.now }
+    {
+        Words { rest: text }
+    }
+}
+
+impl<'a> Iterator for Words<'a> {
+    type Item = &'a [u8];
+
+    ghost next_gives = { YieldsFirstBy (λ word. word.now) (λ words. words) };
+
+    ghost remaining = { item_count (λ words. words) };
+
+    fn next(&mut self) -> Option<&'a [u8]> {
+        let (_, text) = self.rest.split_at(word_at(self.rest));
+        let (word, rest) = split_around(text, blank_at(text));
+        if word.is_empty() {
+            return None;
+        }
+        self.rest = rest;
+        Some(word)
+    }
+}
+
+/// Where the first word begins, or the length where there is none.
+fn word_at(text: &[u8]) -> usize
+    ensures value { result ≡ position_or_len is_in_word text.now }
+    ensures within { result ≤ length text.now }
+{
+    text.iter()
+        .position(|byte| !is_blank(*byte))
+        .unwrap_or(text.len())
+}
+
+/// Where the first blank stands, or the length where there is none.
+fn blank_at(text: &[u8]) -> usize
+    ensures value { result ≡ position_or_len is_blank text.now }
+    ensures within { result ≤ length text.now }
+{
+    text.iter()
+        .position(|byte| is_blank(*byte))
+        .unwrap_or(text.len())
+}
+
+fn is_blank(byte: u8) -> bool
+    ensures { result ≡ is_blank byte }
+{
+    byte == b' ' || byte == b'\t'
+}

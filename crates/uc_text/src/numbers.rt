@@ -1,0 +1,33 @@
+ghost use Rattle.std.specs.Prelude.{◌≡◌, ◌≤◌, ◌^◌};
+ghost use Rattle.uc_text.specs.Numbers.{below, spelled_in, number_of};
+
+/// The number that a text spells: one or more decimal digits, or `0x` and one or more hexadecimal digits of either
+/// case. `None` where the text is no such spelling, or where the number passes the greatest `u64`.
+#[tactic(auto, unfolding(crate::specs::Numbers::spelled))]
+pub fn number(text: &[u8]) -> Option<u64>
+    ensures { result ≡ number_of text.now }
+{
+    match text {
+        [b'0', b'x', digits @ ..] => number_in(16, digits),
+        _ => number_in(10, text),
+    }
+}
+
+/// The number that digits of a radix spell.
+fn number_in(radix: u32, digits: &[u8]) -> Option<u64>
+    requires least { 2 ≤ radix }
+    requires greatest { radix ≤ 36 }
+    ensures { result ≡ below (2 ^ 64) (spelled_in radix digits.now) }
+{
+    if digits.is_empty() {
+        return None;
+    }
+    let mut value = 0u64;
+    for byte in digits {
+        let digit = char::from(*byte).to_digit(radix)?;
+        value = value
+            .checked_mul(u64::from(radix))?
+            .checked_add(u64::from(digit))?;
+    }
+    Some(value)
+}
