@@ -1,0 +1,4 @@
+pub mod Plan
+pub mod Words
+pub mod StepTable
+pub mod Events
