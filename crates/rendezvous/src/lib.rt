@@ -11,7 +11,7 @@
 //! - `StepTable`: the operation of a thread in each phase, and the next phase and the item for each old value.
 //! - `Events`: what an event of a schedule does.
 //!
-//! No code of the crate decides anything.
+//! Its code converts numbers and names, and decides nothing.
 #![tactic(auto)]
 
 mod items;

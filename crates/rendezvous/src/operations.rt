@@ -1,5 +1,8 @@
 //! The words that threads share, and the operations on them.
 
+ghost use Rattle.std.specs.Prelude.{◌≡◌};
+ghost use Rattle.rendezvous.specs.Words.{touched, written};
+
 /// A control word. A thread's words are Mode, Ctrl and Nmi with its number, a group's are Rev and Res.
 #[derive(Clone, Copy, Debug, PartialEq, Eq)]
 pub enum Word {
@@ -32,4 +35,38 @@ pub enum Op {
     Sub(Word, u64),
     /// Stores the last number where the word holds the one before it.
     Cas(Word, u64, u64),
+}
+
+impl Op {
+    /// The word that it touches.
+    pub fn word(self) -> Word
+        ensures { result ≡ touched self }
+    {
+        match self {
+            Op::Load(word)
+            | Op::Store(word, _)
+            | Op::Add(word, _)
+            | Op::Sub(word, _)
+            | Op::Cas(word, _, _) => word,
+        }
+    }
+
+    /// What its word holds afterwards, where it held `found` before.
+    pub fn written(self, found: u64) -> u64
+        ensures { result ≡ written self found }
+    {
+        match self {
+            Op::Load(_) => found,
+            Op::Store(_, new) => new,
+            Op::Add(_, by) => found.wrapping_add(by),
+            Op::Sub(_, by) => found.wrapping_sub(by),
+            Op::Cas(_, expected, new) => {
+                if found == expected {
+                    new
+                } else {
+                    found
+                }
+            }
+        }
+    }
 }

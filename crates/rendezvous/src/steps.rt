@@ -1,5 +1,9 @@
 //! What a thread of a load is, where it stands, and what it ends with.
 
+ghost use Rattle.std.specs.Prelude.{◌≡◌};
+ghost use Rattle.rendezvous.specs.Plan.{is_online, is_offline, is_absent};
+ghost use Rattle.rendezvous.specs.StepTable.{number_of, result_of};
+
 /// What a thread is when a load begins.
 #[derive(Clone, Copy, Debug, Default, PartialEq, Eq)]
 pub enum Kind {
@@ -12,6 +16,26 @@ pub enum Kind {
     Absent,
 }
 
+impl Kind {
+    pub fn is_online(self) -> bool
+        ensures { result ≡ is_online self }
+    {
+        matches!(self, Kind::Online)
+    }
+
+    pub fn is_offline(self) -> bool
+        ensures { result ≡ is_offline self }
+    {
+        matches!(self, Kind::Offline)
+    }
+
+    pub fn is_absent(self) -> bool
+        ensures { result ≡ is_absent self }
+    {
+        matches!(self, Kind::Absent)
+    }
+}
+
 /// What a thread leaves with. The numbers are 1 to 6.
 #[derive(Clone, Copy, Debug, PartialEq, Eq)]
 pub enum ThreadResult {
@@ -21,6 +45,36 @@ pub enum ThreadResult {
     Error = 4,
     Timeout = 5,
     Offline = 6,
+}
+
+impl ThreadResult {
+    /// Its number.
+    pub fn number(self) -> u8
+        ensures { result ≡ number_of self }
+    {
+        match self {
+            ThreadResult::Updated => 1,
+            ThreadResult::Okay => 2,
+            ThreadResult::Current => 3,
+            ThreadResult::Error => 4,
+            ThreadResult::Timeout => 5,
+            ThreadResult::Offline => 6,
+        }
+    }
+
+    /// The result with this number. A number that no result has is taken for Error's.
+    pub fn from_number(number: u64) -> ThreadResult
+        ensures { result ≡ result_of number }
+    {
+        match number {
+            1 => ThreadResult::Updated,
+            2 => ThreadResult::Okay,
+            3 => ThreadResult::Current,
+            5 => ThreadResult::Timeout,
+            6 => ThreadResult::Offline,
+            _ => ThreadResult::Error,
+        }
+    }
 }
 
 /// Where a thread stands in the rendezvous.

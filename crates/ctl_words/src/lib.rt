@@ -1,0 +1,14 @@
+//! The plan of a load, and the control words that its threads share.
+//!
+//! A plan says which threads take part, in which groups, and what each group is offered. A set of words does one
+//! operation at a time: `PlainWords` keeps them in plain lists, for a schedule that is run by one thread.
+#![tactic(auto)]
+
+mod plain;
+mod plans;
+mod shared;
+
+pub use plain::PlainWords;
+pub use plans::Plan;
+pub use rendezvous::{Kind, Op, Word};
+pub use shared::Words;

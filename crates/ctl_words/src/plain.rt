@@ -1,0 +1,134 @@
+//! Control words in plain lists.
+
+ghost use Rattle.std.specs.Prelude.{◌≡◌, ◌+◌, ◌*◌, IfOk, IsTrue, replicate};
+ghost use Rattle.std.specs.Prelude.{◌<◌};
+ghost use Rattle.rendezvous.specs.Words.{touched, words_after, opening_words};
+ghost use Rattle.ctl_words.specs.Plans.{plan_of, IsSound};
+ghost use Rattle.ctl_words.specs.Places.{is_word};
+ghost use Rattle.ctl_words.specs.Lists.{has_word, word_of, with_word};
+
+use crate::plans::Plan;
+use crate::shared::Words;
+use rendezvous::{Op, Word};
+use std::alloc::Global;
+use std::marker::Model;
+use uc_bytes::NoMemory;
+
+/// The control words of a plan, for one thread that does all the operations.
+#[derive(Drop)]
+pub struct PlainWords {
+    arrive: u64,
+    off_in: u64,
+    decide: u64,
+    mode: Vec<u64>,
+    ctrl: Vec<u64>,
+    nmi: Vec<u64>,
+    rev: Vec<u64>,
+    res: Vec<u64>,
+}
+
+impl Model for PlainWords {
+    ghost use Rattle.ctl_words.specs.Lists.{Lists};
+
+    ghost Value = { Lists };
+
+    ghost view = { λ a.
+        record {
+          arrive = a.arrive;
+          off_in = a.off_in;
+          decide = a.decide;
+          mode = a.mode.items;
+          ctrl = a.ctrl.items;
+          nmi = a.nmi.items;
+          rev = a.rev.items;
+          res = a.res.items;
+        } };
+}
+
+impl PlainWords {
+    /// The words of the plan with what they hold when a rendezvous begins. It answers want of memory and nothing else.
+    pub fn new(alloc: Global, plan: &Plan) -> Result<PlainWords, NoMemory>
+        requires { IsSound plan.now }
+        ensures words { IfOk result (λ words. has_word words ≡ is_word (plan_of plan.now)) }
+        ensures opening { IfOk result (λ words. word_of words ≡ opening_words (plan_of plan.now)) }
+    {
+        let threads = usize::from(plan.threads);
+        let mode = zeros(alloc, threads)?;
+        let ctrl = zeros(alloc, threads)?;
+        let nmi = zeros(alloc, threads)?;
+        let rev = revisions(alloc, plan)?;
+        let res = zeros(alloc, plan.primary.len())?;
+        Ok(PlainWords {
+            arrive: u64::from(plan.online()),
+            off_in: 0,
+            decide: 0,
+            mode,
+            ctrl,
+            nmi,
+            rev,
+            res,
+        })
+    }
+
+    fn get(&self, word: Word) -> u64
+        requires { IsTrue (has_word self.now word) }
+        ensures { result ≡ word_of self.now word }
+    {
+        match word {
+            Word::Arrive => self.arrive,
+            Word::OffIn => self.off_in,
+            Word::Decide => self.decide,
+            Word::Mode(thread) => self.mode[usize::from(thread)],
+            Word::Ctrl(thread) => self.ctrl[usize::from(thread)],
+            Word::Nmi(thread) => self.nmi[usize::from(thread)],
+            Word::Rev(group) => self.rev[usize::from(group)],
+            Word::Res(group) => self.res[usize::from(group)],
+        }
+    }
+
+    fn set(&mut self, word: Word, value: u64)
+        requires { IsTrue (has_word self.old word) }
+        ensures { self.new ≡ with_word self.old word value }
+    {
+        match word {
+            Word::Arrive => self.arrive = value,
+            Word::OffIn => self.off_in = value,
+            Word::Decide => self.decide = value,
+            Word::Mode(thread) => self.mode[usize::from(thread)] = value,
+            Word::Ctrl(thread) => self.ctrl[usize::from(thread)] = value,
+            Word::Nmi(thread) => self.nmi[usize::from(thread)] = value,
+            Word::Rev(group) => self.rev[usize::from(group)] = value,
+            Word::Res(group) => self.res[usize::from(group)] = value,
+        }
+    }
+}
+
+fn zeros(alloc: Global, count: usize) -> Result<Vec<u64>, NoMemory>
+    ensures { IfOk result (λ words. words.items ≡ replicate count 0) }
+{
+    Ok(vec![in alloc; 0u64; count]?)
+}
+
+fn revisions(alloc: Global, plan: &Plan) -> Result<Vec<u64>, NoMemory>
+    ensures { IfOk result (λ words. words.items ≡ plan.now.rev0.items) }
+{
+    Ok(
+        plan.rev0
+            .iter()
+            .map(|revision| u64::from(*revision))
+            .collect(alloc)?,
+    )
+}
+
+impl Words for PlainWords {
+    ghost has = { has_word };
+
+    ghost held = { word_of };
+
+    fn apply(&mut self, op: Op) -> u64 {
+        let word = op.word();
+        let found = self.get(word);
+        self.set(word, op.written(found));
+        found
+    }
+}
