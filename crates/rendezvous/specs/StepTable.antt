@@ -1,6 +1,6 @@
 -- The steps of a thread: for each phase the operation, and for each old value of the word that it touches the item and
 -- the thread's next state. `find` takes threads in ascending order, so a loop goes from the first to the next.
-use Rattle.std.specs.Prelude.{ℕ, ◌+◌, ◌==◌, Bool, false, if◌then◌else◌, Option, Some, None, min, nat_lt}
+use Rattle.std.specs.Prelude.{ℕ, ◌+◌, ◌==◌, Bool, true, false, if◌then◌else◌, Option, Some, None, min, nat_lt}
 use Rattle.rendezvous.specs.declared.steps.Kind.{Kind}
 use Rattle.rendezvous.specs.declared.steps.Kind.TheVariants.{Offline, Absent}
 use Rattle.rendezvous.specs.declared.steps.ThreadResult.{ThreadResult}
@@ -113,6 +113,14 @@ write_of plan g = if plan.refuse g then plan.rev0 g else offer_or_rev0 plan g
 abbrev pub release_of : Local → ℕ
 release_of local = if local.mine == 1 then 1 else 2
 
+-- the phases after which nothing comes
+abbrev pub is_last : Phase → Bool
+is_last Left = true
+is_last Halted = true
+is_last Withdrawn = true
+is_last Nothing = true
+is_last phase = false
+
 -- The operation of a thread.
 
 abbrev pub enter_operation : Kind → ℕ → Op
@@ -159,10 +167,14 @@ abbrev pub outside_item : How → What → What
 outside_item how.Nmi quiet = what.Ordinary
 outside_item h quiet = quiet
 
-abbrev pub after_outside : Kind → Plan → ℕ → Local → How → ℕ → Local × What
-after_outside Offline plan t local h found =
+-- an Offline thread takes its kick, finds it taken back, or is not kicked yet
+abbrev pub after_kick : Local → How → ℕ → Local × What
+after_kick local h found =
     if found == 1 then (to local OfflineCount, what.Enter) else
     if found == 3 then (to local Withdrawn, outside_item h what.Idle) else (local, outside_item h what.Poll)
+
+abbrev pub after_outside : Kind → Plan → ℕ → Local → How → ℕ → Local × What
+after_outside Offline plan t local h found = after_kick local h found
 after_outside kind plan t local h found = (entered plan t local, what.Enter)
 
 -- the decision, as an exchange or a look that came too late finds it: 1 go, else drop

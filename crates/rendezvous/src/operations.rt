@@ -60,13 +60,7 @@ impl Op {
             Op::Store(_, new) => new,
             Op::Add(_, by) => found.wrapping_add(by),
             Op::Sub(_, by) => found.wrapping_sub(by),
-            Op::Cas(_, expected, new) => {
-                if found == expected {
-                    new
-                } else {
-                    found
-                }
-            }
+            Op::Cas(_, expected, new) => { if found == expected { new } else { found } }
         }
     }
 }

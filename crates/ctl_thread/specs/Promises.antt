@@ -1,0 +1,85 @@
+-- What the table promises, in the words of a load.
+use Rattle.std.specs.Prelude.{ℕ, ◌+◌, ◌==◌, ◌&&◌, ◌||◌, Bool, true, false}
+use Rattle.rendezvous.specs.declared.steps.Phase.{Phase}
+use Rattle.rendezvous.specs.declared.steps.Phase.TheVariants.{Outside, Kicking, OfflineWait, Arriving, Deciding, Waiting, Reading, Beginning, Writing, Checking, Reporting, Freeing, SiblingWait, SiblingCheck, SiblingCopy, Withdrawing, Releasing, Leaving}
+use Rattle.rendezvous.specs.declared.operations.Word.{Word}
+use Rattle.rendezvous.specs.declared.operations.Word.TheVariants as word
+use Rattle.rendezvous.specs.declared.items.What.{What}
+use Rattle.rendezvous.specs.declared.items.What.TheVariants as what
+use Rattle.rendezvous.specs.Plan.{Plan}
+
+-- the phases before the decision
+abbrev pub is_gathering : Phase → Bool
+is_gathering Outside = true
+is_gathering Kicking = true
+is_gathering OfflineWait = true
+is_gathering Arriving = true
+is_gathering Deciding = true
+is_gathering Waiting = true
+is_gathering phase = false
+
+-- the phases in which a group's primary reads, writes, reports and frees
+abbrev pub is_writing : Phase → Bool
+is_writing Reading = true
+is_writing Beginning = true
+is_writing Writing = true
+is_writing Checking = true
+is_writing Reporting = true
+is_writing Freeing = true
+is_writing phase = false
+
+-- those, and the phases of a sibling that waits for its primary
+abbrev pub is_going : Phase → Bool
+is_going SiblingWait = true
+is_going SiblingCheck = true
+is_going SiblingCopy = true
+is_going phase = is_writing phase
+
+-- the phases on the way out
+abbrev pub is_leaving : Phase → Bool
+is_leaving Withdrawing = true
+is_leaving Releasing = true
+is_leaving Leaving = true
+is_leaving phase = false
+
+-- the words that a thread may touch: the counts and the decision, those of its own number and of its group, the control
+-- word of a thread that it frees, and the kick of a thread that it kicks or whose kick it takes back
+abbrev pub is_freed_by : Phase → Bool
+is_freed_by Freeing = true
+is_freed_by Releasing = true
+is_freed_by phase = false
+
+abbrev pub is_kicked_by : Phase → Bool
+is_kicked_by Kicking = true
+is_kicked_by Withdrawing = true
+is_kicked_by phase = false
+
+abbrev pub may_touch : Plan → ℕ → Phase → ℕ → Word → Bool
+may_touch plan t phase at word.Arrive = true
+may_touch plan t phase at word.OffIn = true
+may_touch plan t phase at word.Decide = true
+may_touch plan t phase at (word.Mode u) = u == t
+may_touch plan t phase at (word.Ctrl u) = (u == t) || (is_freed_by phase && (u == at))
+may_touch plan t phase at (word.Nmi u) = (u == t) || (is_kicked_by phase && (u == at))
+may_touch plan t phase at (word.Rev g) = g == plan.group t
+may_touch plan t phase at (word.Res g) = g == plan.group t
+
+-- a fact for the decision, and a fact for a revision
+abbrev pub OnDecide : Word → Type 0 → Type 0
+OnDecide word.Decide P = P
+OnDecide w P = Unit {0}
+
+abbrev pub OnRevision : Word → Type 0 → Type 0
+OnRevision (word.Rev g) P = P
+OnRevision w P = Unit {0}
+
+-- what t may make of a decision that is still 0
+abbrev pub is_decision_of : ℕ → ℕ → Bool
+is_decision_of t decide = (decide == 0) || (decide == 1) || (decide == 2) || (decide == 3 + t)
+
+-- a thread gives up on others
+abbrev pub gives_up : What → Bool
+gives_up what.Drop = true
+gives_up what.DropKick = true
+gives_up what.Halt = true
+gives_up item = false

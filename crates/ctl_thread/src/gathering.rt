@@ -1,0 +1,121 @@
+//! The rows of the table up to the decision.
+
+ghost use Rattle.std.specs.Prelude.{◌≡◌};
+ghost use Rattle.rendezvous.specs.StepTable as table;
+ghost use Rattle.rendezvous.specs.declared.steps.Phase.TheVariants.{Outside, Kicking, OfflineWait, Arriving, Deciding, Waiting};
+ghost use Rattle.ctl_words.specs.Plans.{plan_of, IsSound};
+
+use crate::moves::{drop_path, go_path, kick_at, loop_at, polled, to, wait_in};
+use crate::searches::first_offline;
+use crate::turns::Turn;
+use ctl_words::Plan;
+use rendezvous::{How, Kind, Local, Phase, What};
+
+impl Turn<'_> {
+    ghost use Rattle.ctl_thread.specs.Turns.{row_of};
+
+    pub fn outside(&self) -> (Local, What)
+        ensures { result ≡ row_of self.now Outside }
+    {
+        match self.plan.kind_of(self.thread) {
+            Kind::Offline => after_kick(self.local, self.how, self.found),
+            _ => (entered(self.plan, self.thread, self.local), What::Enter),
+        }
+    }
+
+    pub fn kicking(&self) -> (Local, What)
+        ensures { result ≡ row_of self.now Kicking }
+    {
+        let next = first_offline(self.plan, u32::from(self.local.at) + 1);
+        (kick_at(self.local, next), What::Kick(self.local.at))
+    }
+
+    pub fn offline_wait(&self) -> (Local, What)
+        requires { IsSound self.now.plan.now }
+        ensures { result ≡ row_of self.now OfflineWait }
+    {
+        match self.how {
+            How::Timeout => {
+                let item = if self.found == 0 {
+                    What::DropKick
+                } else {
+                    What::Inner
+                };
+                (drop_path(self.plan, self.thread, self.local), item)
+            }
+            _ if self.found == u64::from(self.plan.offline()) => (
+                to(self.local, Phase::Arriving),
+                What::Inner,
+            ),
+            _ => (polled(self.local), What::Poll),
+        }
+    }
+
+    pub fn arriving(&self) -> (Local, What)
+        ensures { result ≡ row_of self.now Arriving }
+    {
+        if self.found == 1 {
+            (to(self.local, Phase::Deciding), What::Arrive)
+        } else {
+            (wait_in(self.local, Phase::Waiting), What::Arrive)
+        }
+    }
+
+    pub fn deciding(&self) -> (Local, What)
+        ensures { result ≡ row_of self.now Deciding }
+    {
+        if self.found == 0 {
+            (go_path(self.plan, self.thread, self.local), What::Go)
+        } else {
+            (drop_path(self.plan, self.thread, self.local), What::Inner)
+        }
+    }
+
+    pub fn waiting(&self) -> (Local, What)
+        ensures { result ≡ row_of self.now Waiting }
+    {
+        match (self.found, self.how) {
+            (0, How::Timeout) => (drop_path(self.plan, self.thread, self.local), What::Drop),
+            (0, _) => (polled(self.local), What::Poll),
+            (1, _) => (go_path(self.plan, self.thread, self.local), What::Inner),
+            _ => (drop_path(self.plan, self.thread, self.local), What::Inner),
+        }
+    }
+}
+
+/// An Offline thread takes its kick, finds it taken back, or is not kicked yet.
+fn after_kick(local: &Local, how: How, found: u64) -> (Local, What)
+    ensures { result ≡ table.after_kick local.now how found }
+{
+    match found {
+        1 => (to(local, Phase::OfflineCount), What::Enter),
+        3 => (to(local, Phase::Withdrawn), outside_item(how, What::Idle)),
+        _ => (*local, outside_item(how, What::Poll)),
+    }
+}
+
+/// What an Offline thread shows that is not taken: where an NMI came, it runs ordinary code.
+fn outside_item(how: How, quiet: What) -> What
+    ensures { result ≡ table.outside_item how quiet }
+{
+    match how {
+        How::Nmi => What::Ordinary,
+        _ => quiet,
+    }
+}
+
+/// Thread 0 goes on to the kicks, if there is one to make.
+fn entered(plan: &Plan, thread: u16, local: &Local) -> Local
+    ensures { result ≡ table.entered (plan_of plan.now) thread local.now }
+{
+    if thread == 0 {
+        loop_at(
+            local,
+            Phase::Kicking,
+            first_offline(plan, 0),
+            Phase::Arriving,
+        )
+    } else {
+        to(local, Phase::Arriving)
+    }
+}
