@@ -5,6 +5,6 @@ use Rattle.std.specs.Prelude.{ℕ, ◌+◌, ◌-◌, ◌^◌, ◌<◌, ◌≤◌
 abbrev pub Rose : ℕ → ℕ → Type 0
 Rose before now = (before < now) ⊎ (2 ^ 64 - 1 ≤ before)
 
--- the count after one more failure; one that stands at the greatest u64 stays there
+-- a count after one more; one that stands at the greatest u64 stays there
 abbrev pub one_more : ℕ → ℕ
-one_more faults = min (faults + 1) (2 ^ 64 - 1)
+one_more count = min (count + 1) (2 ^ 64 - 1)

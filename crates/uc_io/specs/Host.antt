@@ -3,8 +3,8 @@ use Rattle.std.specs.Prelude.{ℕ}
 use Rattle.uc_io.specs.declared.host_files.HostFiles.{HostFiles}
 use Rattle.uc_io.specs.declared.out_sink.OutSink.{OutSink}
 
--- how many reads failed
-abbrev pub failed_reads_of : {R : Type 0} → HostFiles R → ℕ
+-- how many calls of the files failed
+abbrev pub failed_reads_of : {R F D : Type 0} → HostFiles R F D → ℕ
 failed_reads_of files = files.faults
 
 -- how many writes failed

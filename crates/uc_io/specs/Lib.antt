@@ -1,7 +1,12 @@
+pub mod Contents
+pub mod Failing
 pub mod Faults
 pub mod Host
 pub mod Limits
 pub mod Memory
+pub mod Pieces
 pub mod Putting
 pub mod Reading
+pub mod Sink
+pub mod Sure
 pub mod Writing

@@ -5,21 +5,27 @@
 //! only where that count rose in it. So a caller that gives up without a fault is refused by its proof.
 #![tactic(auto)]
 
+mod contents;
 mod files;
 mod host_files;
 mod lines;
 mod memory_files;
 mod memory_sink;
+mod opened;
 mod out_sink;
+mod pieces;
 mod sinks;
+mod sure_files;
 
-pub use files::{Files, ReadAnswer};
+pub use files::{Files, OpenAnswer, ReadAnswer};
 pub use host_files::HostFiles;
 pub use lines::write_line;
 pub use memory_files::MemFiles;
 pub use memory_sink::MemSink;
 pub use out_sink::OutSink;
+pub use pieces::{PieceFailed, Pieces};
 pub use sinks::{Sink, SinkFailed};
+pub use sure_files::SureFiles;
 
 #[cfg(test)]
 mod tests;

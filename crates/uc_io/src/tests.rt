@@ -43,6 +43,57 @@ fn files_in_memory_give_what_was_put_last(rt: HostRuntime) -> Result<(), Fail> {
     Ok(())
 }
 
+/// A read, an opening, two pieces of at most two bytes and a read of the name `a`: which of these calls failed.
+fn failures(files: &mut MemFiles, alloc: Global) -> [bool; 5] {
+    let mut piece = [0; 2];
+    [
+        files.read(alloc, "a", 3).is_err(),
+        files.open_file(alloc, "a").is_err(),
+        files.next(&mut piece).is_err(),
+        files.next(&mut piece).is_err(),
+        files.read(alloc, "a", 3).is_err(),
+    ]
+}
+
+#[test]
+fn files_in_memory_fail_at_the_calls_that_are_named(rt: HostRuntime) -> Result<(), Fail> {
+    let table = [
+        (0, 6, [false, false, false, false, false]),
+        (1, 1, [true, false, false, false, false]),
+        (2, 9, [false, true, false, false, false]),
+        (3, 5, [false, false, true, false, true]),
+        (4, 1, [true, false, false, true, false]),
+        (5, 4, [false, false, false, true, true]),
+    ];
+    for (first, second, wanted) in &table {
+        let mut files = MemFiles::new(rt.alloc());
+        files.put("a", b"xyz")?;
+        files.fail_at(*first)?;
+        files.fail_at(*second)?;
+        let failed = failures(&mut files, rt.alloc());
+        assert!(rt; failed == *wanted, "{first} and {second}");
+    }
+    Ok(())
+}
+
+#[test]
+fn sure_files_hold_nothing_under_other_names(rt: HostRuntime) -> Result<(), Fail> {
+    let mut files = SureFiles::new(rt.alloc());
+    files.put("a", b"xyz")?;
+    let mut piece = [0; 2];
+    assert!(rt; files.next(&mut piece).is_ok_and(|taken| taken == 0));
+    files.open_file(rt.alloc(), "a")?;
+    for wanted in [2, 1, 0] {
+        assert!(rt; files.next(&mut piece).is_ok_and(|taken| taken == wanted));
+    }
+    assert_eq!(rt;
+        files.read(rt.alloc(), "a", 3)?.as_slice(),
+        b"xyz".as_slice()
+    );
+    assert_eq!(rt; files.read(rt.alloc(), "b", 3)?.len(), 0);
+    Ok(())
+}
+
 #[test]
 fn a_sink_in_memory_cuts_what_does_not_fit(rt: HostRuntime) -> Result<(), Fail> {
     let mut sink = MemSink::new(rt.alloc(), 6)?;
@@ -53,9 +104,35 @@ fn a_sink_in_memory_cuts_what_does_not_fit(rt: HostRuntime) -> Result<(), Fail> 
     Ok(())
 }
 
+#[test]
+fn a_sink_in_memory_fails_at_the_write_that_is_named(rt: HostRuntime) -> Result<(), Fail> {
+    let table = [(0, "abc"), (1, "bc"), (2, "ac"), (3, "ab"), (4, "abc")];
+    for (write, wanted) in &table {
+        let mut sink = MemSink::new(rt.alloc(), 3)?;
+        sink.fail_at(3 - write.min(&3));
+        sink.fail_at(*write);
+        for piece in [b"a", b"b", b"c"] {
+            let _wrote = sink.write(piece);
+        }
+        assert_eq!(rt; sink.bytes(), wanted.as_bytes(), "at {write}");
+    }
+    Ok(())
+}
+
 /// Bytes that repeat after a prime number of them.
 fn pattern(alloc: Global, length: u32) -> Result<Vec<u8>, AllocError> {
     (0..length).map(|i| (i % 251) as u8).collect(alloc)
+}
+
+/// All that is left, taken in pieces of at most 50,000 bytes.
+fn taken_in_pieces<F: Files>(files: &mut F, alloc: Global) -> Result<Vec<u8>, ReadAnswer> {
+    let mut all = Vec::new(alloc);
+    let mut piece = [0; 50_000];
+    for _ in 0..100 {
+        let taken = files.next(&mut piece)?;
+        all.extend_from_slice(&piece[..taken])?;
+    }
+    Ok(all)
 }
 
 #[test]
@@ -66,11 +143,16 @@ fn files_of_the_host_are_read_whole(rt: HostRuntime) -> Result<(), Fail> {
     let mut files = HostFiles::new(rt.clone()?);
     let whole = files.read(rt.alloc(), name, 200_000)?;
     let cut = files.read(rt.alloc(), name, 199_999);
+    files.open_file(rt.alloc(), name)?;
+    let in_pieces = taken_in_pieces(&mut files, rt.alloc())?;
     fs::remove_file(&rt, name)?;
     let missing = files.read(rt.alloc(), name, 200_000);
+    let not_opened = files.open_file(rt.alloc(), name);
     assert!(rt; whole == held);
+    assert!(rt; in_pieces == held);
     assert_eq!(rt; ending_of(&cut), Ending::TooLong(200_000));
     assert_eq!(rt; ending_of(&missing), Ending::Failed);
+    assert!(rt; matches!(not_opened, Err(OpenAnswer::Failed)));
     Ok(())
 }
 

@@ -1,0 +1,49 @@
+//! Bytes under names.
+ghost use Rattle.std.specs.Prelude.{◌≡◌, OnOk, OnErr, None};
+ghost use Rattle.std.specs.Option.{option_map};
+ghost use Rattle.uc_io.specs.Putting.{Puts};
+
+use std::alloc::Global;
+use std::collections::BTreeMap;
+use uc_bytes::NoMemory;
+
+/// The bytes of files in memory, by their names.
+#[derive(Drop)]
+pub(crate) struct Contents {
+    alloc: Global,
+    by_name: BTreeMap<String, Vec<u8>>,
+}
+
+impl Contents {
+    ghost use Rattle.uc_io.specs.Contents.{bytes_under};
+
+    pub(crate) fn new(alloc: Global) -> Self
+        ensures { bytes_under result ≡ λ _. None }
+    {
+        Contents {
+            alloc,
+            by_name: BTreeMap::new(alloc),
+        }
+    }
+
+    /// Puts bytes under a name, in the place of those that were there.
+    pub(crate) fn put(&mut self, name: &str, bytes: &[u8]) -> Result<(), NoMemory>
+        ensures ok { OnOk result (Puts (bytes_under self.old) (bytes_under self.new) name.now bytes.now) }
+        ensures err { OnErr result (bytes_under self.new ≡ bytes_under self.old) }
+    {
+        let key = String::from_str(self.alloc, name)?;
+        let copy = bytes.to_vec(self.alloc)?;
+        self.by_name.insert(key, copy)?;
+        Ok(())
+    }
+
+    /// The bytes under a name.
+    pub(crate) fn get(&self, name: &str) -> Option<&[u8]>
+        ensures { option_map (λ bytes. bytes.now) result ≡ bytes_under self.now name.now }
+    {
+        match self.by_name.get(name) {
+            Some(bytes) => Some(bytes.as_slice()),
+            None => None,
+        }
+    }
+}
