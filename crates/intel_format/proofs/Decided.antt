@@ -1,15 +1,15 @@
 -- Each list of bytes is an update without a table or is none, and each date names a day or names none.
-use Rattle.std.proofs.Common.{◌≡◌, ◌⊎◌, inl, inr, ℕ, ◌+◌, ◌<◌, ◌≤◌, List, take, refl, arith, Bool, true, false, ℤ, ◌≤ℤ◌}
+use Rattle.std.proofs.Common.{◌≡◌, ◌⊎◌, inl, inr, ℕ, ◌+◌, ◌≤◌, List, take, refl, arith, Bool, true, false, ℤ, ◌≤ℤ◌}
 use Rattle.std.proofs.lemmas.Bool.{cases_lt, cases_eq}
 use Rattle.std.proofs.Math.Dec.{T}
 use Rattle.std.specs.Int.Signed.{le_z}
 use Rattle.std.proofs.lemmas.List.{drop_all}
 use Rattle.uc_bytes.specs.Words.{word_sum_of}
-use Rattle.jiff_core.specs.Calendar.{IsDate, IsYear, IsBetween, days_in_month}
+use Rattle.jiff_core.specs.Calendar.{IsDate, IsBetween}
 use Rattle.intel_format.specs.declared.header.IntelHeader.{IntelHeader}
-use Rattle.intel_format.specs.Header.{header_of, data_len, total_len}
+use Rattle.intel_format.specs.Header.{header_of, data_len}
 use Rattle.intel_format.specs.Update.{IsSoundHeader, IsPlainUpdate}
-use Rattle.intel_format.specs.Date.{NamesDay, AreDigits, month_byte, day_byte, century_byte, year_byte, year_of, two_digits}
+use Rattle.intel_format.specs.Date.{NamesDay, AreDigits, month_byte, day_byte, century_byte, year_byte}
 
 -- a fact holds or does not
 abbrev pub Decided : Type 0 → Type 0

@@ -3,7 +3,6 @@ use Rattle.std.specs.Prelude.{◌≡◌, ◌≢◌, ◌⊎◌, ℕ, ◌+◌, ◌
 use Rattle.uc_bytes.specs.declared.causes.FileCause.{FileCause}
 use Rattle.uc_bytes.specs.declared.causes.FileCause.TheVariants.{Short, SizeUnaligned, TotalSmall, DataPastTotal, Version, Truncated, ExtCut, ExtCount, ExtSum, EntrySum, Sum, TooMany}
 use Rattle.uc_bytes.specs.Words.{word_sum_of}
-use Rattle.intel_format.specs.declared.header.IntelHeader.{IntelHeader}
 use Rattle.intel_format.specs.Header.{header_of, data_len, total_len, header_triple}
 use Rattle.intel_format.specs.Update.{entry_count, entry_sum}
 

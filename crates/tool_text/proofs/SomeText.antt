@@ -1,5 +1,5 @@
 -- Whatever the words and the files are, there is a text for a run in which no read fails.
-use Rattle.std.proofs.Common.{◌≡◌, ◌⊎◌, inl, inr, ℕ, ◌<◌, ◌≤◌, List, ◌++◌, length, None, refl, sym, subst, arith}
+use Rattle.std.proofs.Common.{inl, inr, ℕ, ◌≤◌, List, ◌++◌, length, refl, subst, arith}
 use Rattle.std.proofs.lemmas.Bool.{cases_lt, cases_eq}
 use Rattle.uc_bytes.specs.Words.{word}
 use Rattle.uc_bytes.specs.declared.causes.Vendor.TheVariants.{Intel}
@@ -14,7 +14,7 @@ use Rattle.top_call.specs.declared.status.Status.TheVariants.{Done, Usage, BadIn
 use Rattle.tool_text.specs.declared.TheConstants.{FILE_LIMIT}
 use Rattle.tool_text.specs.Words.{Asked, Faulty, ListOf, asked}
 use Rattle.tool_text.specs.Lines.{usage_line, fault_line, file_line, update_line, day_text, IsDateText}
-use Rattle.tool_text.specs.Listing.{IsAmd, Refuses, HasFault, ListText}
+use Rattle.tool_text.specs.Listing.{HasFault, ListText}
 use Rattle.tool_text.specs.Tool.{AskedText, ToolText}
 
 -- each date has a text

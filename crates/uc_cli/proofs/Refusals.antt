@@ -1,5 +1,5 @@
 -- What a run wrote that ended with a refusal.
-use Rattle.std.proofs.Common.{ℕ, List, Option, Some, None, Err, IsSome, refl}
+use Rattle.std.proofs.Common.{ℕ, List, Some, None, Err, IsSome, refl}
 use Rattle.std.proofs.lemmas.Bool.{false≢true}
 use Rattle.uc_io.specs.Faults.{Rose}
 use Rattle.top_call.specs.declared.status.Status.{Status}

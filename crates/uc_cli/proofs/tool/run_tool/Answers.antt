@@ -1,10 +1,6 @@
-use Rattle.std.proofs.Common.{None, refl, sym, subst}
-use Rattle.uc_io.specs.Faults.{Rose}
-use Rattle.top_call.specs.Written.{Written}
+use Rattle.std.proofs.Common.{None, refl}
 use Rattle.top_call.specs.declared.status.Status.TheVariants.{Usage}
 use Rattle.top_call.proofs.Endings.{Ends-written, Written-ends}
-use Rattle.tool_text.specs.Words.{Asked}
-use Rattle.tool_text.specs.Tool.{AskedText, UsageCause}
 use Rattle.uc_cli.proofs.Refusals.{no_file}
 use Rattle.uc_cli.proofs.tool.run_tool.Goals as goal
 
