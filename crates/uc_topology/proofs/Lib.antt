@@ -1,0 +1,3 @@
+mod Body
+mod Fields
+mod Kept

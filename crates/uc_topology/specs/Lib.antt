@@ -1,0 +1,3 @@
+pub mod Forms
+pub mod Stated
+pub mod Grammar
