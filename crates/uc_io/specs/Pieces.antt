@@ -9,7 +9,8 @@ use Rattle.uc_io.specs.Faults.{Rose}
 -- of faults rose
 abbrev pub IsPieceOf : Type 0 → List ℕ → List ℕ → ℕ → ℕ → List ℕ → Result ℕ PieceFailed → Type 0
 IsPieceOf tells old new before now into (Ok taken) =
-    (now ≡ before) × (taken ≤ length into) × (tells → old ≡ take taken into ++ new) × (tells → taken ≡ 0 → old ≡ [])
+    (now ≡ before) × (taken ≤ length into)
+    × (tells → old ≡ take taken into ++ new) × (tells → taken ≡ 0 → old ≡ [])
 IsPieceOf tells old new before now into (Err failed) = Rose before now × (tells → new ≡ old)
 
 -- what the file holds is left to be taken; or nothing is. Only a failure raises the count of faults.

@@ -62,7 +62,8 @@ pub trait Files: Pieces {
 
     /// Reads the whole file of at most `limit` bytes. Nothing is left open.
     fn read(&mut self, alloc: Global, name: &str, limit: u64) -> Result<Vec<u8>, ReadAnswer>
-        ensures answer { IsReadOf (Self.tells self.old) (holds self.old name.now) limit (Self.faults self.old) (Self.faults self.new) result }
+        ensures answer { IsReadOf (Self.tells self.old) (holds self.old name.now) limit
+            (Self.faults self.old) (Self.faults self.new) result }
         ensures same { holds self.new ≡ holds self.old }
         ensures still { Self.tells self.old → Self.tells self.new }
         ensures closed { Self.tells self.old → Self.left self.new ≡ [] }
@@ -70,7 +71,8 @@ pub trait Files: Pieces {
 
     /// Opens a file, in the place of the one that was open. After a refusal nothing is open.
     fn open_file(&mut self, alloc: Global, name: &str) -> Result<(), OpenAnswer>
-        ensures answer { IsOpened (Self.tells self.old) (holds self.old name.now) (Self.left self.new) (Self.faults self.old) (Self.faults self.new) result }
+        ensures answer { IsOpened (Self.tells self.old) (holds self.old name.now) (Self.left self.new)
+            (Self.faults self.old) (Self.faults self.new) result }
         ensures same { holds self.new ≡ holds self.old }
         ensures still { Self.tells self.old → Self.tells self.new }
         ensures later { Self.faults self.old ≤ Self.faults self.new };

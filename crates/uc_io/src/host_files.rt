@@ -1,8 +1,8 @@
 //! The files of the host.
-ghost use Rattle.std.specs.Prelude.{◌≡◌, ◌<◌, ◌≤◌, ℕ, List, [], take, length, IfOk, IfErr, IfSome};
+ghost use Rattle.std.specs.Prelude.{◌≡◌, ◌<◌, ◌≤◌, [], take, length, IfOk, IfSome};
 ghost use Rattle.std.specs.Io.KnownBytes.{Consumes, IsAtEnd};
-ghost use Rattle.uc_io.specs.Limits.{KeepsLimit};
 ghost use Rattle.uc_io.specs.Faults.{Rose, one_more};
+ghost use Rattle.uc_io.specs.Limits.{KeepsLimit};
 
 use crate::files::{Files, OpenAnswer, ReadAnswer};
 use crate::pieces::{PieceFailed, Pieces};
@@ -69,7 +69,6 @@ impl<R: host::Files> Pieces for HostFiles<R> {
 }
 
 impl<R: host::Files> Files for HostFiles<R> {
-    ghost use Rattle.std.specs.Prelude.{[]};
     ghost use Rattle.std.proofs.Common.{refl};
 
     ghost holds = { λ _ _. [] };

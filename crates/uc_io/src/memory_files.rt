@@ -95,7 +95,8 @@ impl Pieces for MemFiles {
 
     fn next(&mut self, into: &mut [u8]) -> Result<usize, PieceFailed>
         requires { 0 < length into.old }
-        ensures piece { IsPieceOf (Unit {0}) (left_of self.old) (left_of self.new) (faults_of self.old) (faults_of self.new) into.new result }
+        ensures piece { IsPieceOf (Unit {0}) (left_of self.old) (left_of self.new)
+            (faults_of self.old) (faults_of self.new) into.new result }
         ensures source { put_under self.new ≡ put_under self.old }
         ensures failed { IsErr result ↔ IsToFail self.old }
         ensures counted { OnErr result (faults_of self.new ≡ one_more (faults_of self.old)) }
@@ -121,7 +122,8 @@ impl Files for MemFiles {
     ghost holds_stay = { λ old new same. ap (λ put name. unwrap_or (put name) []) same };
 
     fn read(&mut self, alloc: Global, name: &str, limit: u64) -> Result<Vec<u8>, ReadAnswer>
-        ensures answer { IsReadOf (Unit {0}) (holds_of self.old name.now) limit (faults_of self.old) (faults_of self.new) result }
+        ensures answer { IsReadOf (Unit {0}) (holds_of self.old name.now) limit
+            (faults_of self.old) (faults_of self.new) result }
         ensures contents { put_under self.new ≡ put_under self.old }
         ensures same { holds_of self.new ≡ holds_of self.old }
         ensures closed { left_of self.new ≡ [] }
@@ -148,7 +150,8 @@ impl Files for MemFiles {
     }
 
     fn open_file(&mut self, alloc: Global, name: &str) -> Result<(), OpenAnswer>
-        ensures answer { IsOpened (Unit {0}) (holds_of self.old name.now) (left_of self.new) (faults_of self.old) (faults_of self.new) result }
+        ensures answer { IsOpened (Unit {0}) (holds_of self.old name.now) (left_of self.new)
+            (faults_of self.old) (faults_of self.new) result }
         ensures contents { put_under self.new ≡ put_under self.old }
         ensures same { holds_of self.new ≡ holds_of self.old }
         ensures failed { IsErrOf result OpenAnswer.Failed ↔ IsRefused self.old name.now }

@@ -86,7 +86,8 @@ impl Sink for MemSink {
     fn write(&mut self, piece: &[u8]) -> Result<(), SinkFailed>
         ensures writes { Writes stands_for faults_of self.old self.new piece.now result }
         ensures taken { taken_by self.new ≡ taken_by self.old ++ part_of self.old piece.now }
-        ensures ok { IsOk result ↔ ((is_to_fail self.old ≡ false) × (length (taken_by self.old) + length piece.now ≤ room_of self.old)) }
+        ensures ok { IsOk result ↔ ((is_to_fail self.old ≡ false)
+            × (length (taken_by self.old) + length piece.now ≤ room_of self.old)) }
         ensures counted { OnErr result (faults_of self.new ≡ one_more (faults_of self.old)) }
         ensures number { writes_of self.new ≡ one_more (writes_of self.old) }
         ensures room { room_of self.new ≡ room_of self.old }

@@ -22,7 +22,8 @@ pub trait Pieces {
     /// Takes bytes from the front of what is left, and says how many; none only where nothing is left.
     fn next(&mut self, into: &mut [u8]) -> Result<usize, PieceFailed>
         requires { 0 < length into.old }
-        ensures piece { IsPieceOf (tells self.old) (left self.old) (left self.new) (faults self.old) (faults self.new) into.new result }
+        ensures piece { IsPieceOf (tells self.old) (left self.old) (left self.new)
+            (faults self.old) (faults self.new) into.new result }
         ensures source { same_source self.old self.new }
         ensures still { tells self.old → tells self.new }
         ensures later { faults self.old ≤ faults self.new };

@@ -1,5 +1,5 @@
 //! Files in memory that never fail.
-ghost use Rattle.std.specs.Prelude.{◌≡◌, ◌<◌, [], length, IsOk, OnOk, OnErr, None};
+ghost use Rattle.std.specs.Prelude.{◌≡◌, [], OnOk, OnErr, None};
 ghost use Rattle.uc_io.specs.Putting.{Puts};
 
 use crate::contents::Contents;
@@ -58,7 +58,6 @@ impl Pieces for SureFiles {
 }
 
 impl Files for SureFiles {
-    ghost use Rattle.std.specs.Prelude.{[]};
     ghost use Rattle.std.specs.Option.{unwrap_or};
     ghost use Rattle.std.proofs.Common.{ap};
     ghost use Rattle.uc_io.specs.Sure.{holds_of};
