@@ -1,3 +1,4 @@
 pub mod Ascending
 pub mod Touched
 pub mod Leading
+pub mod Ranges

@@ -1,12 +1,13 @@
 //! What the table promises, in the words of a load. Each law is the contract of a function that does nothing.
 
-ghost use Rattle.std.specs.Prelude.{◌≡◌, ◌≢◌, ℕ, ◌&&◌, ◌||◌, false, not, IfSome, IsTrue};
+ghost use Rattle.std.specs.Prelude.{◌≡◌, ◌≢◌, ℕ, ◌&&◌, ◌||◌, ◌<◌, false, not, IfSome, IsTrue};
 ghost use Rattle.rendezvous.specs.declared.steps.Local.{Local};
 ghost use Rattle.rendezvous.specs.declared.steps.Phase.TheVariants.{Writing};
 ghost use Rattle.rendezvous.specs.declared.steps.How.{How};
 ghost use Rattle.rendezvous.specs.declared.steps.How.TheVariants.{Step};
 ghost use Rattle.rendezvous.specs.declared.operations.Word.TheVariants.{Decide};
-ghost use Rattle.rendezvous.specs.Plan.{Plan, is_primary};
+ghost use Rattle.rendezvous.specs.Plan.{Plan, Sound, is_primary};
+ghost use Rattle.ctl_words.specs.Places.{is_word};
 ghost use Rattle.rendezvous.specs.Words.{touched, written};
 ghost use Rattle.rendezvous.specs.StepTable.{operation, after};
 ghost use Rattle.ctl_thread.specs.Promises.{is_gathering, is_going, is_leaving, is_writing, may_touch, OnDecide, OnRevision, is_decision_of, gives_up};
@@ -49,4 +50,12 @@ pub fn writes_as_primary()
 /// A step that is no timeout never gives up on others.
 pub fn steps_never_give_up()
     ensures { (plan : Plan) (t : ℕ) (local : Local) (found : ℕ) → gives_up (after plan t local Step found).1 ≡ false }
+{}
+
+/// A thread stays within its plan: the words that it touches are the plan's, and its loops come to the plan's threads.
+pub fn stays_in_the_plan()
+    ensures words { (plan : Plan) (t : ℕ) (local : Local) (how : How) → Sound plan → t < plan.threads → local.at < plan.threads
+        → IfSome (operation plan t local how) (λ op. IsTrue (is_word plan (touched op))) }
+    ensures loops { (plan : Plan) (t : ℕ) (local : Local) (how : How) (found : ℕ) → local.at < plan.threads
+        → (after plan t local how found).0.at < plan.threads }
 {}

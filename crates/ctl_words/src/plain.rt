@@ -1,6 +1,6 @@
 //! Control words in plain lists.
 
-ghost use Rattle.std.specs.Prelude.{◌≡◌, ◌+◌, ◌*◌, IfOk, IsTrue, replicate};
+ghost use Rattle.std.specs.Prelude.{◌≡◌, ◌+◌, ◌*◌, IfOk, IsTrue, replicate, slice_index};
 ghost use Rattle.std.specs.Prelude.{◌<◌};
 ghost use Rattle.rendezvous.specs.Words.{touched, words_after, opening_words};
 ghost use Rattle.ctl_words.specs.Plans.{plan_of, IsSound};
@@ -70,19 +70,19 @@ impl PlainWords {
         })
     }
 
-    fn get(&self, word: Word) -> u64
-        requires { IsTrue (has_word self.now word) }
+    /// What a word holds; a word that the plan has not holds 0.
+    pub fn get(&self, word: Word) -> u64
         ensures { result ≡ word_of self.now word }
     {
         match word {
             Word::Arrive => self.arrive,
             Word::OffIn => self.off_in,
             Word::Decide => self.decide,
-            Word::Mode(thread) => self.mode[usize::from(thread)],
-            Word::Ctrl(thread) => self.ctrl[usize::from(thread)],
-            Word::Nmi(thread) => self.nmi[usize::from(thread)],
-            Word::Rev(group) => self.rev[usize::from(group)],
-            Word::Res(group) => self.res[usize::from(group)],
+            Word::Mode(thread) => entry(&self.mode, thread),
+            Word::Ctrl(thread) => entry(&self.ctrl, thread),
+            Word::Nmi(thread) => entry(&self.nmi, thread),
+            Word::Rev(group) => entry(&self.rev, group),
+            Word::Res(group) => entry(&self.res, group),
         }
     }
 
@@ -101,6 +101,12 @@ impl PlainWords {
             Word::Res(group) => self.res[usize::from(group)] = value,
         }
     }
+}
+
+fn entry(words: &Vec<u64>, at: u16) -> u64
+    ensures { result ≡ slice_index words.now.items at }
+{
+    words.get(usize::from(at)).copied().unwrap_or(0)
 }
 
 fn zeros(alloc: Global, count: usize) -> Result<Vec<u64>, NoMemory>

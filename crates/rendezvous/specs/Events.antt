@@ -84,7 +84,7 @@ performs plan t h running None = if left_with_latch t running then runs_ordinary
 abbrev pub steps : Plan → ℕ → How → Running → Running × What
 steps plan t h running = performs plan t h running (operation plan t (running.locals t) h)
 
--- an attempt to run ordinary code, by a thread of a kind that is not held
+-- an attempt to run ordinary code, by a thread of this kind that is not held
 abbrev pub runs_by : Kind → Plan → ℕ → Running → Running × What
 runs_by Online plan t running =
     if shows_halted running.words t then idles running else runs_ordinary t running
@@ -92,24 +92,36 @@ runs_by Offline plan t running =
     if left_with_latch t running then runs_ordinary t running else idles running
 runs_by Absent plan t running = idles running
 
--- an NMI from elsewhere, at a thread of a kind that is not held
 abbrev pub is_outside : Phase → Bool
 is_outside phase.Outside = true
 is_outside phase = false
 
+-- an NMI from elsewhere, at an Offline thread that is not held
+abbrev pub nmi_offline : Plan → ℕ → Running → Running × What
+nmi_offline plan t running =
+    if is_outside ((running.locals t).phase) then steps plan t how.Nmi running else
+    if shows_left running.words t || shows_withdrawn plan running.words t then runs_ordinary t running else idles running
+
+-- an NMI from elsewhere, at a thread of this kind that is not held
 abbrev pub nmi_by : Kind → Plan → ℕ → Running → Running × What
 nmi_by Online plan t running =
     if shows_halted running.words t then idles running else runs_ordinary t running
-nmi_by Offline plan t running =
-    if is_outside ((running.locals t).phase) then steps plan t how.Nmi running else
-    if shows_left running.words t || shows_withdrawn plan running.words t then runs_ordinary t running else idles running
+nmi_by Offline plan t running = nmi_offline plan t running
 nmi_by Absent plan t running = idles running
+
+-- an attempt to run ordinary code
+abbrev pub runs : Plan → ℕ → Running → Running × What
+runs plan t running =
+    if shows_held plan running.words t then steps plan t how.Step running else runs_by (plan.kind t) plan t running
+
+-- an NMI from elsewhere
+abbrev pub nmi_comes : Plan → ℕ → Running → Running × What
+nmi_comes plan t running =
+    if shows_held plan running.words t then latches t running else nmi_by (plan.kind t) plan t running
 
 -- what an event does, and its item
 unfoldable pub happens : Plan → Event → Running → Running × What
 happens plan (event.Step t) running = steps plan t how.Step running
 happens plan (event.Timeout t) running = steps plan t how.Timeout running
-happens plan (event.Run t) running =
-    if shows_held plan running.words t then steps plan t how.Step running else runs_by (plan.kind t) plan t running
-happens plan (event.Nmi t) running =
-    if shows_held plan running.words t then latches t running else nmi_by (plan.kind t) plan t running
+happens plan (event.Run t) running = runs plan t running
+happens plan (event.Nmi t) running = nmi_comes plan t running
