@@ -15,6 +15,15 @@ abbrev pub table_of : List ℕ → List ℕ
 table_of bytes =
     drop (48 + data_len (header_of bytes)) (take (total_len (header_of bytes)) bytes)
 
+-- the check that a cause names fails at an extended signature table
+abbrev pub TableFails : ℕ → List ℕ → FileCause → Type 0
+TableFails triple table ExtCut = length table < 20
+TableFails triple table ExtCount = length table ≢ 20 + 12 * entry_count table
+TableFails triple table ExtSum = word_sum_of table ≢ 0
+TableFails triple table (EntrySum i) =
+    (i < entry_count table) × (entry_sum table i ≢ triple) × ((j : ℕ) → j < i → entry_sum table j ≡ triple)
+TableFails triple table cause = ⊥
+
 -- the check that a cause names fails at the update that begins the bytes, where so many updates stand before it
 abbrev pub Fails : ℕ → List ℕ → FileCause → Type 0
 Fails before bytes TooMany = 65536 ≤ before
@@ -27,17 +36,9 @@ Fails before bytes DataPastTotal =
 Fails before bytes Version =
     ((header_of bytes).version ≢ 1) ⊎ ((header_of bytes).loader ≢ 1)
 Fails before bytes Truncated = length bytes < total_len (header_of bytes)
-Fails before bytes ExtCut =
-    (0 < length (table_of bytes)) × (length (table_of bytes) < 20)
-Fails before bytes ExtCount =
-    (0 < length (table_of bytes)) × (length (table_of bytes) ≢ 20 + 12 * entry_count (table_of bytes))
-Fails before bytes ExtSum =
-    (0 < length (table_of bytes)) × (word_sum_of (table_of bytes) ≢ 0)
-Fails before bytes (EntrySum i) =
-    (0 < length (table_of bytes)) × (i < entry_count (table_of bytes)) × (entry_sum (table_of bytes) i ≢ header_triple (header_of bytes))
-    × ((j : ℕ) → j < i → entry_sum (table_of bytes) j ≡ header_triple (header_of bytes))
 Fails before bytes Sum = word_sum_of (head_and_data bytes) ≢ 0
-Fails before bytes _ = ⊥
+Fails before bytes cause =
+    (0 < length (table_of bytes)) × TableFails (header_triple (header_of bytes)) (table_of bytes) cause
 
 -- the place of a check in the order
 abbrev pub check_place : FileCause → ℕ
@@ -59,3 +60,8 @@ check_place _ = 13
 pub record IsFirstFault (before : ℕ) (bytes : List ℕ) (cause : FileCause) : Type 0 where
   pub fails : Fails before bytes cause
   pub first : (earlier : FileCause) → check_place earlier < check_place cause → Fails before bytes earlier → ⊥
+
+-- the same of a table
+pub record IsFirstTableFault (triple : ℕ) (table : List ℕ) (cause : FileCause) : Type 0 where
+  pub fails : TableFails triple table cause
+  pub first : (earlier : FileCause) → check_place earlier < check_place cause → TableFails triple table earlier → ⊥
