@@ -1,5 +1,5 @@
 -- Lines that are read one after the other.
-use Rattle.std.proofs.Common.{◌≡◌, ℕ, ◌≤◌, List, [], ◌∷◌, length, codes, Result, Ok, Err, refl, sym, ap, ◌∙◌, lit≤, arith}
+use Rattle.std.proofs.Common.{◌≤◌, length, codes, lit≤}
 use Rattle.uc_text.specs.Lines.{words_of}
 use Rattle.uc_topology.specs.declared.forms.Version.{Version}
 use Rattle.uc_topology.specs.declared.forms.Version.TheVariants.{Cores, Packages}

@@ -1,7 +1,6 @@
 -- Forms of lines. A form is written as a line: its capital letters stand for numbers, its other words stand as they are.
-use Rattle.std.specs.Prelude.{ℕ, ◌^◌, Bool, true, false, ◌&&◌, ◌||◌, List, [], ◌∷◌, bytes_eq, ◌==◌, slice_index, nat_le, Option, None, Some, option_and_then, option_map, if◌then◌else◌}
+use Rattle.std.specs.Prelude.{ℕ, ◌^◌, Bool, true, false, ◌&&◌, ◌||◌, List, [], ◌∷◌, bytes_eq, ◌==◌, slice_index, nat_le, Option, None, Some, option_and_then, if◌then◌else◌}
 use Rattle.uc_text.specs.Numbers.{spelled, below}
-use Rattle.uc_text.specs.Lines.{words_of}
 
 -- a part of a form that stands for a number
 abbrev pub is_number : List ℕ → Bool

@@ -1,6 +1,6 @@
 -- What a topology states: who makes its processors, the cores with their packages and facts, and the core of each
 -- thread. Threads and cores are numbered from 0 in the order of their lines.
-use Rattle.std.specs.Prelude.{ℕ, ◌≡◌, ◌<◌, ◌≤◌, Bool, List, [], ◌∷◌, ◌++◌, length, map, slice_index, slice_index_or, ◌==◌, if◌then◌else◌}
+use Rattle.std.specs.Prelude.{ℕ, ◌≡◌, ◌<◌, ◌≤◌, List, [], ◌∷◌, ◌++◌, length, map, slice_index, slice_index_or, ◌==◌, if◌then◌else◌}
 use Rattle.std.specs.List.{All, list_any, fold, position_or_len, range_with_len}
 use Rattle.uc_bytes.specs.declared.causes.Vendor.{Vendor}
 use Rattle.uc_topology.specs.declared.tables.Core.{Core}

@@ -1,4 +1,4 @@
-use Rattle.std.proofs.Common.{◌<◌, nat_eq, length, sym, arith}
+use Rattle.std.proofs.Common.{nat_eq, length, sym, arith}
 use Rattle.std.proofs.lemmas.Bool.{eq-eqb}
 use Rattle.std.proofs.lemmas.List.Sums.{position_or_len_is}
 use Rattle.uc_topology.proofs.topology.first_place.Goals as goal

@@ -1,5 +1,4 @@
-use Rattle.std.proofs.Common.{length, ap, ◌∙◌, arith}
-use Rattle.std.proofs.lemmas.List.{length_push}
+use Rattle.std.proofs.Common.{arith}
 use Rattle.uc_topology.proofs.Kept.{range_table-push}
 use Rattle.uc_topology.proofs.topology.first_places.Goals as goal
 

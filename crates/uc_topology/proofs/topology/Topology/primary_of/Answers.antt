@@ -1,4 +1,4 @@
-use Rattle.std.proofs.Common.{◌≡◌, ◌<◌, length, get_or, sym, subst, ap, ◌∙◌, arith}
+use Rattle.std.proofs.Common.{◌<◌, length, get_or, sym, subst, ap, ◌∙◌, arith}
 use Rattle.uc_topology.specs.Stated.{Stated, Machine, primary, group_count}
 use Rattle.uc_topology.proofs.Kept.{at_range, length_range}
 use Rattle.uc_topology.proofs.topology.Topology.primary_of.Goals as goal
