@@ -1,14 +1,16 @@
 -- What the tables keep when a core is added.
-use Rattle.std.proofs.Common.{◌≡◌, ℕ, zero, suc, ◌+◌, ◌<◌, ◌≤◌, ◌≢◌, Bool, true, false, ◌&&◌, nat_eq, List, [], ◌∷◌, ◌++◌, length, get_or, map, refl, sym, ap, ◌∙◌, subst, inl, inr, zero-add, arith}
+use Rattle.std.proofs.Common.{◌≡◌, ℕ, zero, suc, ◌+◌, ◌<◌, ◌≤◌, ◌≢◌, Bool, true, false, ◌&&◌, nat_eq, nat_lt, List, [], ◌∷◌, ◌++◌, length, get_or, map, refl, sym, ap, ◌∙◌, subst, inl, inr, zero-add, arith}
 use Rattle.std.specs.List.{All, list_any, list_all, fold, range_with_len}
-use Rattle.std.proofs.lemmas.Bool.{cases_eq, cases_lt, eq-eqb, ne_eqb, cond-true, cond-false}
+use Rattle.std.proofs.lemmas.Bool.{false≢true, cases_eq, cases_lt, eq-eqb, ne_eqb, cond-true, cond-false, eqb-true, ltb-true, and_parts}
 use Rattle.std.proofs.lemmas.List.{length_push, length-map, map_push, get_or-map, get_or_append_left, get_or_push}
 use Rattle.std.proofs.lemmas.List.Elements.{All-nil, All-head, All-tail, All-weaker, All-push}
 use Rattle.std.proofs.lemmas.List.Folds.{position_or_len_push}
-use Rattle.std.proofs.lemmas.List.Sums.{fold_push, position_or_len_is}
+use Rattle.std.proofs.lemmas.List.Sums.{fold_push, position_or_len_is, AllPass-from_list_all, passes_at_first, fails_before_first}
 use Rattle.std.proofs.lemmas.List.FromFn.{length-range_with_len, get_or-range_with_len}
 use Rattle.uc_topology.specs.declared.tables.Core.{Core}
-use Rattle.uc_topology.specs.Stated.{AreTables, group_of, with_new, groups_of, group_count, core_at, no_core, first_core}
+use Rattle.uc_topology.specs.declared.tables.GroupFacts.{GroupFacts}
+use Rattle.uc_topology.specs.Stated.{Stated, AreTables, AreGroups, IsPartition, group_of, with_new, groups_of, group_count, group_facts, core_at, no_core, first_core, lead, thread_groups, primary}
+use Rattle.uc_topology.specs.Grammar.{same_facts, is_full}
 
 -- ---- numbers in a row
 
@@ -67,10 +69,89 @@ thread_groups_stay cores core (k ∷ ks) known =
     let same : core_at (cores ++ core ∷ []) k ≡ core_at cores k = get_or_append_left cores (core ∷ []) no_core k (All-head (λ k. k < length cores) k ks known) in
     rw same (ap (λ (groups : List ℕ). group_of (core_at cores k) ∷ groups) (thread_groups_stay cores core ks (All-tail (λ k. k < length cores) k ks known)))
 
+-- ---- facts
+
+same_numbers : (a b : ℕ) → nat_eq a b ≡ true → a ≡ b
+same_numbers a b e = eqb-true a b e
+
+abbrev facts_of : ℕ → ℕ → ℕ → GroupFacts
+facts_of sig flags rev = record { sig = sig; flags = flags; rev = rev }
+
+facts_agree : (a b : GroupFacts) → same_facts a b ≡ true → a ≡ b
+facts_agree a b e =
+    let two = and_parts (nat_eq a.sig b.sig && nat_eq a.flags b.flags) (nat_eq a.rev b.rev) e in
+    let one = and_parts (nat_eq a.sig b.sig) (nat_eq a.flags b.flags) two.0 in
+    let sig = same_numbers a.sig b.sig one.0 in
+    let flags = same_numbers a.flags b.flags one.1 in
+    let rev = same_numbers a.rev b.rev two.1 in
+    ap (λ (n : ℕ). facts_of n a.flags a.rev) sig ∙ ap (λ (n : ℕ). facts_of b.sig n a.rev) flags ∙ ap (facts_of b.sig b.flags) rev
+
+-- the facts of a group that has a core stay
+group_facts_stay : (cores : List Core) (core : Core) (g : ℕ) → first_core cores g < length cores → group_facts (cores ++ core ∷ []) g ≡ group_facts cores g
+group_facts_stay cores core g lt =
+    ap (λ (k : ℕ). (core_at (cores ++ core ∷ []) k).facts) (first_stays cores core g lt) ∙ ap (λ (c : Core). c.facts) (get_or_append_left cores (core ∷ []) no_core (first_core cores g) lt)
+
+-- where each group keeps its first core, the cores that stand agree as before, and a new one where it does
+agree_more : (cores : List Core) (core : Core) → ((k : ℕ) → k < length cores → (core_at cores k).facts ≡ group_facts cores (core_at cores k).group)
+    → ((k : ℕ) → k < length cores → first_core cores (core_at cores k).group < length cores) → core.facts ≡ group_facts (cores ++ core ∷ []) core.group
+    → (k : ℕ) → k < length (cores ++ core ∷ []) → (core_at (cores ++ core ∷ []) k).facts ≡ group_facts (cores ++ core ∷ []) (core_at (cores ++ core ∷ []) k).group
+agree_more cores core before first here k lt =
+    elim (cases_lt k (length cores)) [
+      | inl old ↦
+          let same : core_at (cores ++ core ∷ []) k ≡ core_at cores k = get_or_append_left cores (core ∷ []) no_core k old in
+          rw same (before k old ∙ sym (group_facts_stay cores core (core_at cores k).group (first k old)))
+      | inr new ↦
+          let at : core_at (cores ++ core ∷ []) k ≡ core = get_or_push cores core no_core k (omega (arith, length_push cores core, lt, new)) in
+          rw at here
+    ]
+
 -- ---- the tables
 
-pub AreTables-old_group : (cores : List Core) (threads groups firsts : List ℕ) (core : Core) → AreTables cores threads groups firsts → length cores < 256 → core.group < length firsts → AreTables (cores ++ core ∷ []) threads groups firsts
-AreTables-old_group cores threads groups firsts core are room lt =
+-- each group has a core
+first_below : (cores : List Core) (threads groups firsts : List ℕ) → AreTables cores threads groups firsts → (g : ℕ) → g < length firsts → first_core cores g < length cores
+first_below cores threads groups firsts are g below = subst (λ (k : ℕ). k < length cores) (are.first g below) (are.first_in g below)
+
+-- what the tables keep of groups
+pub groups_from : (cores : List Core) (threads groups firsts : List ℕ) → AreTables cores threads groups firsts → AreGroups (record { cores = cores; threads = threads })
+groups_from cores threads groups firsts are = record {
+  threads_fit = are.threads_fit;
+  cores_fit = are.cores_fit;
+  on_cores = are.on_cores;
+  in_groups = All-weaker (λ core. core.group < length firsts) (λ core. core.group < group_count cores) (λ core below. omega (arith, are.count, below)) cores are.in_groups;
+  has_core = λ g below. first_below cores threads groups firsts are g (omega (arith, are.count, below));
+  agree = are.agree;
+}
+
+-- a group with a core that has a thread has a lowest thread
+primary_below : (stated : Stated) (g : ℕ) → first_core stated.cores g < length stated.cores → lead stated (first_core stated.cores g) < length stated.threads → primary stated g < length stated.threads
+primary_below stated g core_in thread_in =
+    let core : ℕ = first_core stated.cores g in
+    let thread : ℕ = lead stated core in
+    let on : get_or stated.threads thread 0 ≡ core = eqb-true _ _ (passes_at_first (λ other. nat_eq other core) stated.threads 0 thread_in) in
+    let in_group : group_of (core_at stated.cores core) ≡ g = eqb-true _ _ (passes_at_first (λ c. nat_eq (group_of c) g) stated.cores no_core core_in) in
+    let here : get_or (thread_groups stated) thread 0 ≡ g = get_or-map (λ c. group_of (core_at stated.cores c)) stated.threads thread 0 0 thread_in ∙ ap (λ (c : ℕ). group_of (core_at stated.cores c)) on ∙ in_group in
+    elim (cases_lt (primary stated g) (length stated.threads)) [
+      | inl lt ↦ lt
+      | inr le ↦ absurd (false≢true (sym (fails_before_first (λ other. nat_eq other g) (thread_groups stated) thread 0 (omega (arith, le, thread_in))) ∙ eq-eqb _ _ here))
+    ]
+
+-- whole tables are a partition
+pub partition_from : (stated : Stated) → AreGroups stated → is_full stated ≡ true → IsPartition stated
+partition_from stated groups whole =
+    let parts = and_parts (nat_lt 0 (length stated.threads)) (list_all (λ core. nat_lt (lead stated core) (length stated.threads)) (range_with_len 0 (length stated.cores))) whole in
+    let each = AllPass-from_list_all (λ core. nat_lt (lead stated core) (length stated.threads)) (range_with_len 0 (length stated.cores)) parts.1 in
+    let has_thread : (core : ℕ) → core < length stated.cores → lead stated core < length stated.threads = λ core below.
+    let number : get_or (range_with_len 0 (length stated.cores)) core 0 ≡ core = get_or-range_with_len 0 (length stated.cores) core 0 below ∙ zero-add core in
+    ltb-true (lead stated core) (length stated.threads) (subst (λ (k : ℕ). nat_lt (lead stated k) (length stated.threads) ≡ true) number (each core 0 (omega (arith, length-range_with_len 0 (length stated.cores), below)))) in
+    record {
+      groups = groups;
+      some_thread = ltb-true 0 (length stated.threads) parts.0;
+      has_thread = has_thread;
+      has_primary = λ g below. primary_below stated g (groups.has_core g below) (has_thread (first_core stated.cores g) (groups.has_core g below));
+    }
+
+pub AreTables-old_group : (cores : List Core) (threads groups firsts : List ℕ) (core : Core) → AreTables cores threads groups firsts → length cores < 256 → core.group < length firsts → same_facts core.facts (group_facts cores core.group) ≡ true → AreTables (cores ++ core ∷ []) threads groups firsts
+AreTables-old_group cores threads groups firsts core are room lt agrees =
     let different = old_group cores core (length firsts) are.different lt in
     record {
       cores_fit = omega (arith, length_push cores core, room);
@@ -83,12 +164,15 @@ AreTables-old_group cores threads groups firsts core are room lt =
       in_groups = All-push (λ core. core.group < length firsts) cores core are.in_groups lt;
       first = λ g below. are.first g below ∙ sym (first_stays cores core g (subst (λ (k : ℕ). k < length cores) (are.first g below) (are.first_in g below)));
       first_in = λ g below. omega (arith, length_push cores core, are.first_in g below);
+      agree = agree_more cores core are.agree (λ k below. first_below cores threads groups firsts are _ (are.in_groups k no_core below)) (facts_agree _ _ agrees ∙ sym (group_facts_stay cores core core.group (first_below cores threads groups firsts are core.group lt)));
     }
 
 pub AreTables-new_group : (cores : List Core) (threads groups firsts : List ℕ) (core : Core) (number : ℕ) → AreTables cores threads groups firsts → length cores < 256 → core.group ≡ length firsts → number ≡ length cores
     → AreTables (cores ++ core ∷ []) threads groups (firsts ++ number ∷ [])
 AreTables-new_group cores threads groups firsts core number are room is next =
     let longer : length (firsts ++ number ∷ []) ≡ length firsts + 1 = length_push firsts number in
+    let own : core_at (cores ++ core ∷ []) (first_core (cores ++ core ∷ []) core.group) ≡ core =
+    ap (λ (g : ℕ). core_at (cores ++ core ∷ []) (first_core (cores ++ core ∷ []) g)) is ∙ ap (core_at (cores ++ core ∷ [])) (first_is_new cores core (length firsts) are.in_groups is) ∙ get_or_push cores core no_core (length cores) refl in
     let different : groups_of (cores ++ core ∷ []) ≡ range_with_len 0 (length (firsts ++ number ∷ [])) = new_group cores core (length firsts) are.different is ∙ ap (range_with_len 0) (sym longer) in
     record {
       cores_fit = omega (arith, length_push cores core, room);
@@ -109,12 +193,14 @@ AreTables-new_group cores threads groups firsts core number are room is next =
         | inl lt ↦ omega (arith, length_push cores core, get_or_append_left firsts (number ∷ []) 0 g lt, are.first_in g lt)
         | inr le ↦ omega (arith, length_push cores core, get_or_push firsts number 0 g (omega (arith, longer, below, le)), next)
       ];
+      agree = agree_more cores core are.agree (λ k below. first_below cores threads groups firsts are _ (are.in_groups k no_core below)) (sym (ap (λ (c : Core). c.facts) own));
     }
 
 -- no core and no thread
 pub AreTables-none : AreTables [] [] [] []
 unfolding groups_of
 AreTables-none = record {
+  agree = λ core below. absurd (omega (arith, below));
   cores_fit = omega arith;
   threads_fit = omega arith;
   groups = refl;

@@ -1,3 +1,4 @@
 mod Body
 mod Fields
 mod Kept
+mod Laws

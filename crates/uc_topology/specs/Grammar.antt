@@ -112,9 +112,13 @@ is_full stated = nat_lt 0 (length stated.threads) && list_all (λ core. nat_lt (
 abbrev pub full : Stated → Result Stated TopoFault
 full stated = if is_full stated then Ok stated else Err (record { line = 0; cause = EmptyCore })
 
+-- no core and no thread
+abbrev pub nothing : Stated
+nothing = record { cores = []; threads = [] }
+
 abbrev pub read_body : Version → Vendor → List (ℕ × List ℕ) → Result Machine TopoFault
 read_body version vendor lines =
-    after_lines version (record { cores = []; threads = [] }) lines >>= λ stated. full stated >>= λ stated. Ok (record { vendor = vendor; stated = stated })
+    after_lines version nothing lines >>= λ stated. full stated >>= λ stated. Ok (record { vendor = vendor; stated = stated })
 
 abbrev pub read_vendor : Version → List (ℕ × List ℕ) → Result Machine TopoFault
 read_vendor version [] = Err (record { line = 0; cause = Word })

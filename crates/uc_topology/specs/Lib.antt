@@ -1,3 +1,4 @@
 pub mod Forms
 pub mod Stated
 pub mod Grammar
+pub mod Texts

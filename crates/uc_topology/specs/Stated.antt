@@ -56,6 +56,22 @@ thread_groups stated = map (λ core. group_of (core_at stated.cores core)) state
 abbrev pub primary : Stated → ℕ → ℕ
 primary stated group = position_or_len (λ other. other == group) (thread_groups stated)
 
+-- each thread is on one core and each core in one group; no group is empty, and the cores of a group agree
+pub record AreGroups (stated : Stated) : Type 0 where
+  pub threads_fit : length stated.threads ≤ 256
+  pub cores_fit : length stated.cores ≤ 256
+  pub on_cores : All (λ core. core < length stated.cores) stated.threads
+  pub in_groups : All (λ core. core.group < group_count stated.cores) stated.cores
+  pub has_core : (group : ℕ) → group < group_count stated.cores → first_core stated.cores group < length stated.cores
+  pub agree : (core : ℕ) → core < length stated.cores → (core_at stated.cores core).facts ≡ group_facts stated.cores (core_at stated.cores core).group
+
+-- the cores are a partition of the threads, and the groups one of the cores
+pub record IsPartition (stated : Stated) : Type 0 where
+  pub groups : AreGroups stated
+  pub some_thread : 0 < length stated.threads
+  pub has_thread : (core : ℕ) → core < length stated.cores → lead stated core < length stated.threads
+  pub has_primary : (group : ℕ) → group < group_count stated.cores → primary stated group < length stated.threads
+
 -- what the tables of a reader keep: the group of each thread, and the first core of each group
 pub record AreTables (cores : List Core) (threads thread_groups firsts : List ℕ) : Type 0 where
   pub cores_fit : length cores ≤ 256
@@ -68,3 +84,4 @@ pub record AreTables (cores : List Core) (threads thread_groups firsts : List �
   pub in_groups : All (λ core. core.group < length firsts) cores
   pub first : (group : ℕ) → group < length firsts → slice_index firsts group ≡ first_core cores group
   pub first_in : (group : ℕ) → group < length firsts → slice_index firsts group < length cores
+  pub agree : (core : ℕ) → core < length cores → (core_at cores core).facts ≡ group_facts cores (core_at cores core).group

@@ -9,7 +9,7 @@ mod tables;
 mod topology;
 
 pub use fault::{TopoCause, TopoFault};
-pub use reading::read_topology;
+pub use reading::{each_text_reads_one_way, read_topology};
 pub use tables::{Core, GroupFacts};
 pub use topology::Topology;
 

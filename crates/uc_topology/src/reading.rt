@@ -1,4 +1,7 @@
-ghost use Rattle.std.specs.Prelude.{◌≡◌, ◌<◌, ◌≤◌, ◌∷◌, slice_index, [], length, filter, MatchResult, MatchOption, Ok, Err, codes};
+ghost use Rattle.std.specs.Prelude.{◌≡◌, ◌<◌, ◌≤◌, ◌∷◌, slice_index, [], length, filter, MatchResult, MatchOption, IfOk, IfErr, Ok, Err, codes, ℕ, List, ◌⊎◌};
+ghost use Rattle.uc_topology.specs.Stated.{Machine};
+ghost use Rattle.uc_topology.specs.Texts.{States, FirstFault};
+ghost use Rattle.uc_topology.specs.declared.fault.TopoFault.{TopoFault};
 ghost use Rattle.uc_text.specs.Lines.{words_of};
 ghost use Rattle.uc_topology.specs.Forms.{numbers_of};
 ghost use Rattle.uc_topology.specs.declared.fault.TopoCause.TheVariants.{Head, Word};
@@ -14,8 +17,25 @@ use uc_text::{Line, Lines, Words};
 /// The topology that a text states. It takes no memory. Lines without words, and those that begin with `#`, are
 /// skipped. The first two lines name the version and the vendor, as `ucode-topology 1` and `vendor intel`; each
 /// other line is a core's or a thread's, as `core 0 sig 0x906ea flags 0x2 rev 0xb4` and `cpu 0 core 0`.
-#[tactic(auto, unfolding(crate::specs::Grammar::reading))]
 pub fn read_topology(bytes: &[u8]) -> Result<Topology, TopoFault>
+    requires { length bytes.now ≤ 1048576 }
+    ensures stated { IfOk result (States bytes.now) }
+    ensures fault { IfErr result (FirstFault bytes.now) }
+    ensures reading { MatchResult result (λ topology. reading bytes.now ≡ Ok topology) (λ fault. reading bytes.now ≡ Err fault) }
+{
+    read(bytes)
+}
+
+/// Each text states one machine or has one first fault, and never both. This is a law: the body does nothing.
+pub fn each_text_reads_one_way()
+    ensures reads { (text : List ℕ) → ((machine : Machine) × States text machine) ⊎ ((fault : TopoFault) × FirstFault text fault) }
+    ensures one_machine { (text : List ℕ) (one other : Machine) → States text one → States text other → one ≡ other }
+    ensures one_fault { (text : List ℕ) (one other : TopoFault) → FirstFault text one → FirstFault text other → one ≡ other }
+    ensures never_both { (text : List ℕ) (machine : Machine) (fault : TopoFault) → States text machine → FirstFault text fault → ⊥ }
+{}
+
+#[tactic(auto, unfolding(crate::specs::Grammar::reading))]
+fn read(bytes: &[u8]) -> Result<Topology, TopoFault>
     requires { length bytes.now ≤ 1048576 }
     ensures { MatchResult result (λ topology. reading bytes.now ≡ Ok topology) (λ fault. reading bytes.now ≡ Err fault) }
 {

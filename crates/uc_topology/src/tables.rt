@@ -42,7 +42,7 @@ impl Model for Tables {
 }
 
 impl Tables {
-    ghost use Rattle.uc_topology.specs.Stated.{Stated, core_at, group_of, group_count, group_facts, thread_groups};
+    ghost use Rattle.uc_topology.specs.Stated.{Stated, AreGroups, core_at, group_of, group_count, group_facts, thread_groups};
     ghost use Rattle.uc_topology.specs.Grammar.{next_core, next_thread};
 
     pub fn new() -> Self
@@ -110,6 +110,7 @@ impl Tables {
     pub fn threads(&self) -> &[u16]
         ensures value { result.now ≡ self.now.threads }
         ensures size { length self.now.threads ≤ 256 }
+        ensures groups { AreGroups self.now }
     {
         &self.threads
     }

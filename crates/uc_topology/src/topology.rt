@@ -35,7 +35,7 @@ impl Model for Topology {
 }
 
 impl Topology {
-    ghost use Rattle.uc_topology.specs.Stated.{Machine, core_at, group_of, group_count, group_facts, thread_groups, primary};
+    ghost use Rattle.uc_topology.specs.Stated.{Machine, IsPartition, core_at, group_of, group_count, group_facts, thread_groups, primary};
 
     /// The topology of whole tables; nothing where a core has no thread, or there is no thread.
     pub fn of_tables(vendor: Vendor, tables: Tables) -> Option<Topology>
@@ -54,8 +54,10 @@ impl Topology {
         })
     }
 
+    /// The number of threads, which is at least 1. Its contract says also that cores and groups are partitions.
     pub fn threads(&self) -> u16
-        ensures { result ≡ length self.now.stated.threads }
+        ensures value { result ≡ length self.now.stated.threads }
+        ensures partition { IsPartition self.now.stated }
     {
         self.tables.threads().len() as u16
     }
