@@ -10,14 +10,23 @@
 //! - `Words`: the control words, and what one operation leaves of them.
 //! - `StepTable`: the operation of a thread in each phase, and the next phase and the item for each old value.
 //! - `Events`: what an event of a schedule does.
+//! - `Round`, `RoundItems`, `RoundEnds`, `RoundStep`: the model, with sets of threads and one stage, and its steps.
+//! - `Run`: a run of the model over the events of a schedule. `Excluded`: no thread of a group runs ordinary code while the
+//!   group is written.
+//! - `Shown`: the state of the model that words and threads' states stand for. `Rule`: what holds of these between two
+//!   steps, by way of `Facets`, `Kinds` and `Awaited`; `Padded`: what a plan's tables hold past their end. `Safe`: what is
+//!   safe of a state. `OneStep`: that a step keeps the rule and is one of the model.
+//! - `Outcome`: what is left of a rendezvous. `Verdict`: what a load answers for it. `Ran`: what a run as a whole comes to.
 //!
 //! Its code converts numbers and names, and decides nothing.
 #![tactic(auto)]
 
+mod ends;
 mod items;
 mod operations;
 mod steps;
 
+pub use ends::{Beat, End};
 pub use items::{Event, Item, What};
 pub use operations::{Op, Word};
 pub use steps::{How, Kind, Local, Phase, ThreadResult};
