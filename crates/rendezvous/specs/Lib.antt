@@ -19,3 +19,4 @@ pub mod Outcome
 pub mod Verdict
 pub mod Ran
 pub mod OneStep
+pub mod Laws

@@ -23,10 +23,12 @@
 
 mod ends;
 mod items;
+mod laws;
 mod operations;
 mod steps;
 
 pub use ends::{Beat, End};
 pub use items::{Event, Item, What};
+pub use laws::opening_keeps_the_rule;
 pub use operations::{Op, Word};
 pub use steps::{How, Kind, Local, Phase, ThreadResult};

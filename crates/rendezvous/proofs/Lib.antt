@@ -1,0 +1,3 @@
+mod Count
+mod Threads
+mod Opening
