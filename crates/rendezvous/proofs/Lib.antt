@@ -1,3 +1,4 @@
 mod Count
 mod Threads
 mod Opening
+mod Seen
