@@ -1,5 +1,5 @@
 -- Counts of numbers of a range that pass a test.
-use Rattle.std.proofs.Common.{◌≡◌, ◌≢◌, ℕ, zero, suc, ◌+◌, ◌<◌, ◌≤◌, Bool, true, false, cond, not, ◌&&◌, count_by, refl, ap, sym, ◌∙◌, arith, true≢false, ◌⊎◌, inl, inr}
+use Rattle.std.proofs.Common.{◌≡◌, ◌≢◌, ℕ, zero, suc, ◌+◌, ◌<◌, ◌≤◌, Bool, true, false, cond, not, ◌&&◌, count_by, refl, ap, sym, ◌∙◌, arith, true≢false, eq-zero-or-pos, ◌⊎◌, inl, inr}
 use mathlib.Core.Path.{fun_ext}
 use Rattle.std.specs.List.{range_with_len}
 use Rattle.std.proofs.lemmas.List.Sums.{sum_by-cons}
@@ -92,3 +92,15 @@ count_all p q a n t full low high passes =
     let none : count (λ u. p u && not (q u)) a n ≡ 0 = let e = count_split p q a n in omega arith in
     let here = count_none (λ u. p u && not (q u)) a n t none low high in
     both (p t) (q t) passes here
+
+-- one that passes is counted
+pub count_some : (p : ℕ → Bool) (a n t : ℕ) → a ≤ t → t < a + n → p t ≡ true → 0 < count p a n
+count_some p a n t low high passes =
+    elim (eq-zero-or-pos (count p a n)) [
+      inl none ↦ absurd (true≢false (sym passes ∙ count_none p a n t none low high))
+    | inr some ↦ some
+    ]
+
+-- no more pass two tests than pass the first
+pub count_both : (p q : ℕ → Bool) (a n : ℕ) → count (λ u. p u && q u) a n ≤ count p a n
+count_both p q a n = let e = count_split p q a n in omega arith

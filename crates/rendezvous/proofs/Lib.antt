@@ -2,3 +2,7 @@ mod Count
 mod Threads
 mod Opening
 mod Seen
+mod Frame
+mod Search
+mod Decision
+mod Paths
