@@ -6,3 +6,5 @@ mod Frame
 mod Search
 mod Decision
 mod Paths
+mod Moved
+mod Waiting
