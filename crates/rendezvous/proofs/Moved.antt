@@ -8,9 +8,11 @@ use Rattle.rendezvous.specs.declared.steps.Phase.{Phase}
 use Rattle.rendezvous.specs.declared.steps.Phase.TheVariants as phase
 use Rattle.rendezvous.specs.declared.steps.Local.{Local}
 use Rattle.rendezvous.specs.declared.steps.How.{How}
+use Rattle.rendezvous.specs.declared.steps.How.TheVariants as how
 use Rattle.rendezvous.specs.declared.operations.Word.TheVariants as word
 use Rattle.rendezvous.specs.declared.operations.Op.{Op}
 use Rattle.rendezvous.specs.declared.items.What.{What}
+use Rattle.rendezvous.specs.declared.items.What.TheVariants as what
 use Rattle.rendezvous.specs.Plan.{Plan, Sound}
 use Rattle.rendezvous.specs.Words.{Families, families, touched, words_after}
 use Rattle.rendezvous.specs.StepTable.{operation, after}
@@ -23,7 +25,7 @@ use Rattle.rendezvous.specs.Shown.{shown, shown_by, place_of, stage_of}
 use Rattle.rendezvous.specs.Rule.{Rule, ctrl_of, is_passed, is_released, result_in}
 use Rattle.rendezvous.specs.OneStep.{Ruled, Kept, event_of}
 use Rattle.rendezvous.proofs.Decision.{Quiet, Decided, decision_rule, decision_shown}
-use Rattle.rendezvous.proofs.Paths.{Plain}
+use Rattle.rendezvous.proofs.Paths.{Plain, Turned, quiet}
 
 abbrev pub moved : Running → ℕ → Op → Local × What → Running × What
 moved moment t op next =
@@ -128,3 +130,48 @@ pub decider_online :
 unfolding is_offline_phase
 decider_online plan words locals t rule e =
     online_at plan words locals t phase.Deciding rule (deciding_by (locals t).phase e) refl (λ f. cc)
+
+-- a step or a timeout, and no NMI
+abbrev pub is_step : How → Bool
+is_step how.Step = true
+is_step how.Timeout = true
+is_step how.Nmi = false
+
+-- what nobody else sees is a step of the model
+pub inner_round :
+  (plan : Plan) (t : ℕ) (h : How) (before after : State) →
+  is_step h ≡ true → before.place t ≡ In → after ≡ before → Round plan before (event_of h t) what.Inner after
+inner_round plan t how.Step before after own is_in same = (refl, record { is_in = is_in; change = same })
+inner_round plan t how.Timeout before after own is_in same = (refl, record { is_in = is_in; change = same })
+inner_round plan t how.Nmi before after own is_in same = cc
+
+-- A thread that finds the decision made takes the path that it says.
+pub finds :
+  (plan : Plan) (moment : Running) (t : ℕ) (h : How) (op : Op) (new : Local) →
+  Sound plan →
+  Ruled plan moment →
+  plan.kind t ≡ Online →
+  is_step h ≡ true →
+  moment.words word.Decide ≢ 0 →
+  Plain plan t (moment.locals t) →
+  Turned plan t new (is_passed plan moment.locals t) (moment.words word.Decide) →
+  operation plan t (moment.locals t) h ≡ Some op →
+  after plan t (moment.locals t) h (moment.words (touched op)) ≡ (new, what.Inner) →
+  families (words_after moment.words op) ≡ families moment.words → Kept plan (event_of h t) moment (steps plan t h moment)
+finds plan moment t h op new sound rule online own made plain turned e f words =
+    decision_kept plan moment t h op new what.Inner (moment.words word.Decide) sound rule online e f words
+    (quiet plan t _ _ plain turned.plain)
+    (record {
+      is_made = made;
+      own = turned.ok;
+      others = λ u other ok. ok;
+      arrived_already = turned.plain.arriving;
+      waits_not = turned.waits_not;
+      releases_not = turned.releases_not;
+      decides_not = turned.decides_not;
+      go_after_all = rule.go_after_all;
+      kick_dropped = rule.kick_dropped;
+      dropped_by_online = rule.dropped_by_online;
+      zero_dropped = rule.zero_dropped;
+    })
+    (inner_round plan t h _ _ own (plain_is_in plan moment t rule online plain) (unchanged plan moment made))

@@ -5,15 +5,17 @@ use Rattle.rendezvous.specs.declared.steps.Kind.{Kind}
 use Rattle.rendezvous.specs.declared.steps.Kind.TheVariants.{Online, Offline, Absent}
 use Rattle.rendezvous.specs.declared.steps.Phase.TheVariants as phase
 use Rattle.rendezvous.specs.declared.steps.Local.{Local}
+use Rattle.rendezvous.specs.declared.steps.How.{How}
 use Rattle.rendezvous.specs.declared.steps.How.TheVariants as how
 use Rattle.rendezvous.specs.declared.operations.Word.TheVariants as word
+use Rattle.rendezvous.specs.declared.operations.Op.{Op}
 use Rattle.rendezvous.specs.declared.operations.Op.TheVariants.{Cas}
 use Rattle.rendezvous.specs.declared.items.What.{What}
 use Rattle.rendezvous.specs.declared.items.What.TheVariants as what
 use Rattle.rendezvous.specs.declared.items.Event.TheVariants as event
 use Rattle.rendezvous.specs.Plan.{Plan, Sound, is_online, online_count}
 use Rattle.rendezvous.specs.Padded.{Padded}
-use Rattle.rendezvous.specs.Words.{Families, families}
+use Rattle.rendezvous.specs.Words.{Families, families, touched, words_after}
 use Rattle.rendezvous.specs.StepTable.{operation, operation_in, after, after_in, drop_path, go_path, by_decision}
 use Rattle.rendezvous.specs.Events.{Running, steps}
 use Rattle.rendezvous.specs.Facets.{past_arriving, is_deciding, on_go, on_drop}
@@ -23,13 +25,13 @@ use Rattle.rendezvous.specs.Round.{State, Gathering, DroppedBy, nobody}
 use Rattle.rendezvous.specs.RoundStep.{Round}
 use Rattle.rendezvous.specs.Shown.{shown_by, stage_of, arrived_of}
 use Rattle.rendezvous.specs.Rule.{Rule, OnlineOk, is_passed}
-use Rattle.rendezvous.specs.OneStep.{Ruled, Kept, KeepsTheRule}
+use Rattle.rendezvous.specs.OneStep.{Ruled, Kept, KeepsTheRule, event_of}
 use Rattle.rendezvous.proofs.Count.{count, count_some, count_both, same_or_not}
 use Rattle.rendezvous.proofs.Threads.{count_zero_first}
 use Rattle.rendezvous.proofs.Decision.{Decided}
 use Rattle.rendezvous.proofs.Search.{online_in_range}
 use Rattle.rendezvous.proofs.Paths.{Turned, Plain, quiet, plain_waiting, go_turned, drop_turned}
-use Rattle.rendezvous.proofs.Moved.{online_at, decider_online, plain_is_in, decision_kept, unchanged}
+use Rattle.rendezvous.proofs.Moved.{is_step, online_at, decider_online, plain_is_in, decision_kept, finds}
 
 waiting_online : (plan : Plan) (moment : Running) (t : ℕ) → Ruled plan moment → (moment.locals t).phase ≡ phase.Waiting → plan.kind t ≡ Online
 unfolding is_offline_phase
@@ -191,3 +193,59 @@ drops plan moment t sound padded rule waits undecided =
     decides_nothing : (b : Bool) {c : Bool} → c ≡ false → (b && c) ≡ false
     decides_nothing true e = e
     decides_nothing false e = refl
+
+-- the decision is made: it takes the path that it finds
+takes :
+  (plan : Plan) (moment : Running) (t : ℕ) (h : How) (op : Op) →
+  Sound plan →
+  Padded plan →
+  Ruled plan moment →
+  is_step h ≡ true →
+  (moment.locals t).phase ≡ phase.Waiting →
+  moment.words word.Decide ≢ 0 →
+  operation plan t (moment.locals t) h ≡ Some op →
+  after plan t (moment.locals t) h (moment.words (touched op)) ≡ by_decision plan t (moment.locals t) (moment.words word.Decide) →
+  families (words_after moment.words op) ≡ families moment.words → Kept plan (event_of h t) moment (steps plan t h moment)
+takes plan moment t h op sound padded rule own waits made e f words =
+    let online = waiting_online plan moment t rule waits in
+    let plain = plain_waiting plan t (moment.locals t) online waits in
+    elim (same_or_not (moment.words word.Decide) 1) [
+      inl go ↦
+        finds plan moment t h op (go_path plan t (moment.locals t)) sound rule online own made plain
+        (subst (λ d. Turned plan t (go_path plan t (moment.locals t)) (is_passed plan moment.locals t) d) (sym go)
+        (go_turned plan t (moment.locals t) (is_passed plan moment.locals t) online))
+        e
+        (f ∙ went (moment.words word.Decide) (go_path plan t (moment.locals t), what.Inner) (drop_path plan t (moment.locals t), what.Inner) go)
+        words
+    | inr drop ↦
+        finds plan moment t h op (drop_path plan t (moment.locals t)) sound rule online own made plain
+        (drop_turned plan t (moment.locals t) (is_passed plan moment.locals t) (moment.words word.Decide) sound padded online (omega arith))
+        e
+        (f ∙ went_not (moment.words word.Decide) (go_path plan t (moment.locals t), what.Inner) (drop_path plan t (moment.locals t), what.Inner) drop)
+        words
+    ]
+  where
+    went : (d : ℕ) (x y : Local × What) → d ≡ 1 → (if d == 1 then x else y) ≡ x
+    went d x y e = let f : (d == 1) ≡ true = grind (arith, nat_tests) in rw f refl
+    went_not : (d : ℕ) (x y : Local × What) → d ≢ 1 → (if d == 1 then x else y) ≡ y
+    went_not d x y e = let f : (d == 1) ≡ false = grind (arith, nat_tests) in rw f refl
+
+made_after : (d : ℕ) (x y : Local × What) → d ≢ 0 → (if d == 0 then x else y) ≡ y
+made_after d x y e = let f : (d == 0) ≡ false = grind (arith, nat_tests) in rw f refl
+
+made_word : (d new : ℕ) → d ≢ 0 → (if d == 0 then new else d) ≡ d
+made_word d new e = let f : (d == 0) ≡ false = grind (arith, nat_tests) in rw f refl
+
+-- Out of patience, it drops, or goes where the decision says.
+pub waiting_timeout : KeepsTheRule phase.Waiting how.Timeout
+unfolding operation after
+waiting_timeout plan moment t sound padded rule waits =
+    elim (same_or_not (moment.words word.Decide) 0) [
+      inl undecided ↦ drops plan moment t sound padded rule waits undecided
+    | inr made ↦
+        takes plan moment t how.Timeout (Cas word.Decide 0 (3 + t)) sound padded rule refl waits made
+        (ap (operation_in plan t (moment.locals t) how.Timeout) waits)
+        (ap (after_in plan t (moment.locals t) how.Timeout (moment.words word.Decide)) waits
+        ∙ made_after (moment.words word.Decide) (drop_path plan t (moment.locals t), what.Drop) (by_decision plan t (moment.locals t) (moment.words word.Decide)) made)
+        (ap (λ d. record (families moment.words) { decide = d }) (made_word (moment.words word.Decide) (3 + t) made))
+    ]
