@@ -31,7 +31,7 @@ split_cond false false = refl
 
 -- those that pass a test are those that pass another too, and those that do not
 pub count_split :
-  (p q : ℕ → Bool) (a n : ℕ) → count (λ u. p u && q u) a n + count (λ u. p u && not (q u)) a n ≡ count p a n
+    (p q : ℕ → Bool) (a n : ℕ) → count (λ u. p u && q u) a n + count (λ u. p u && not (q u)) a n ≡ count p a n
 count_split p q a zero = refl
 count_split p q a (suc n) =
     let rest = count_split p q (a + 1) n in
@@ -52,20 +52,20 @@ count_same_from p q a (suc n) same =
 
 -- a test that passes one number more counts one more
 pub count_less :
-  (p q : ℕ → Bool) (a n t : ℕ) → a ≤ t → t < a + n →
-  p t ≡ true → q t ≡ false → ((u : ℕ) → u ≢ t → p u ≡ q u) → count p a n ≡ count q a n + 1
+    (p q : ℕ → Bool) (a n t : ℕ) → a ≤ t → t < a + n →
+    p t ≡ true → q t ≡ false → ((u : ℕ) → u ≢ t → p u ≡ q u) → count p a n ≡ count q a n + 1
 count_less p q a zero t low high passes fails same = absurd (omega arith)
 count_less p q a (suc n) t low high passes fails same =
     elim (same_or_not a t) [
-      inl e ↦
-        let rest = count_same_from p q (a + 1) n (λ u h. same u (omega arith)) in
-        let passes' : p a ≡ true = rw e passes in
-        let fails' : q a ≡ false = rw e fails in
-        rw (count_step p a n, count_step q a n, passes', fails', rest) (omega arith)
-    | inr ne ↦
-        let rest = count_less p q (a + 1) n t (omega arith) (omega arith) passes fails same in
-        let here = same a ne in
-        rw (count_step p a n, count_step q a n, here, rest) (omega arith)
+      | inl e ↦
+          let rest = count_same_from p q (a + 1) n (λ u h. same u (omega arith)) in
+          let passes' : p a ≡ true = rw e passes in
+          let fails' : q a ≡ false = rw e fails in
+          rw (count_step p a n, count_step q a n, passes', fails', rest) (omega arith)
+      | inr ne ↦
+          let rest = count_less p q (a + 1) n t (omega arith) (omega arith) passes fails same in
+          let here = same a ne in
+          rw (count_step p a n, count_step q a n, here, rest) (omega arith)
     ]
 
 -- a test that none passes counts none
@@ -80,14 +80,14 @@ count_none p a (suc n) t none low high =
     let here : cond (p a) 1 0 + count p (a + 1) n ≡ 0 = sym (count_step p a n) ∙ none in
     let first : p a ≡ false = counts_none (p a) (count p (a + 1) n) here in
     elim (same_or_not a t) [
-      inl e ↦ rw (← e) first
-    | inr ne ↦ count_none p (a + 1) n t (omega arith) (omega arith) (omega arith)
+      | inl e ↦ rw (← e) first
+      | inr ne ↦ count_none p (a + 1) n t (omega arith) (omega arith) (omega arith)
     ]
 
 -- all that pass one test pass another, where as many are counted that pass both
 pub count_all :
-  (p q : ℕ → Bool) (a n t : ℕ) →
-  count (λ u. p u && q u) a n ≡ count p a n → a ≤ t → t < a + n → p t ≡ true → q t ≡ true
+    (p q : ℕ → Bool) (a n t : ℕ) →
+    count (λ u. p u && q u) a n ≡ count p a n → a ≤ t → t < a + n → p t ≡ true → q t ≡ true
 count_all p q a n t full low high passes =
     let none : count (λ u. p u && not (q u)) a n ≡ 0 = let e = count_split p q a n in omega arith in
     let here = count_none (λ u. p u && not (q u)) a n t none low high in
@@ -97,8 +97,8 @@ count_all p q a n t full low high passes =
 pub count_some : (p : ℕ → Bool) (a n t : ℕ) → a ≤ t → t < a + n → p t ≡ true → 0 < count p a n
 count_some p a n t low high passes =
     elim (eq-zero-or-pos (count p a n)) [
-      inl none ↦ absurd (true≢false (sym passes ∙ count_none p a n t none low high))
-    | inr some ↦ some
+      | inl none ↦ absurd (true≢false (sym passes ∙ count_none p a n t none low high))
+      | inr some ↦ some
     ]
 
 -- no more pass two tests than pass the first

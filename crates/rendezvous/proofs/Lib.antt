@@ -8,3 +8,4 @@ mod Decision
 mod Paths
 mod Moved
 mod Waiting
+mod Deciding

@@ -90,15 +90,15 @@ first_awaited plan sound =
     let online = λ (u : ℕ). is_online (plan.kind u) in
     let zero_is : online 0 ≡ true = rw sound.thread_0_is_online refl in
     let all : online_count plan ≡ cond (online 0) 1 0 + count online 1 (plan.threads - 1) =
-      count_zero_first plan online sound.some_thread in
+    count_zero_first plan online sound.some_thread in
     let all' : online_count plan ≡ 1 + count online 1 (plan.threads - 1) = rw zero_is at all in
     let others : count online 1 (plan.threads - 1) ≡ awaited plan (opening plan) =
-      count_same
-      online
-      (λ u. is_online (plan.kind u) && not (past_arriving (opening_phase (plan.kind u))))
-      1
-      (plan.threads - 1)
-      (λ u. awaited_first (plan.kind u)) in
+    count_same
+    online
+    (λ u. is_online (plan.kind u) && not (past_arriving (opening_phase (plan.kind u))))
+    1
+    (plan.threads - 1)
+    (λ u. awaited_first (plan.kind u)) in
     omega arith
   where
     awaited_first : (kind : Kind) → is_online kind ≡ (is_online kind && not (past_arriving (opening_phase kind)))
@@ -145,7 +145,7 @@ first_online plan t passed =
     }
 
 first_offline :
-  (plan : Plan) (k : ℕ) (first : Local) (passed released : Bool) → OfflineOk plan k first (at_first Offline) passed released
+    (plan : Plan) (k : ℕ) (first : Local) (passed released : Bool) → OfflineOk plan k first (at_first Offline) passed released
 unfolding is_offline_phase has_come
 first_offline plan k first passed released =
     record {
@@ -161,9 +161,9 @@ unfolding mode_of opening
 first_modes plan t = sym (first_mode (plan.kind t) (has_write plan t))
 
 first_ctrls :
-  (plan : Plan) (t : ℕ) →
-  0
-  ≡ ctrl_of (is_halted (opening plan t).phase) (is_passed plan (opening plan) t) (is_released plan (opening plan) t) (result_in plan (plan.group t))
+    (plan : Plan) (t : ℕ) →
+    0
+    ≡ ctrl_of (is_halted (opening plan t).phase) (is_passed plan (opening plan) t) (is_released plan (opening plan) t) (result_in plan (plan.group t))
 unfolding ctrl_of opening
 first_ctrls plan t =
     let h = first_halted (plan.kind t) in
@@ -203,7 +203,7 @@ unfolding opening
 first_decides plan t e = true≢false (sym e ∙ first_deciding (plan.kind t))
 
 first_onlines :
-  (plan : Plan) (t : ℕ) → plan.kind t ≡ Online → OnlineOk plan t (opening plan t) (is_passed plan (opening plan) t) 0
+    (plan : Plan) (t : ℕ) → plan.kind t ≡ Online → OnlineOk plan t (opening plan t) (is_passed plan (opening plan) t) 0
 first_onlines plan t online =
     subst
     (λ l. OnlineOk plan t l (is_passed plan (opening plan) t) 0)
@@ -211,9 +211,9 @@ first_onlines plan t online =
     (first_online plan t _)
 
 first_offlines :
-  (plan : Plan) (k : ℕ) →
-  plan.kind k ≡ Offline →
-  OfflineOk plan k (opening plan 0) (opening plan k) (is_passed plan (opening plan) k) (is_released plan (opening plan) k)
+    (plan : Plan) (k : ℕ) →
+    plan.kind k ≡ Offline →
+    OfflineOk plan k (opening plan 0) (opening plan k) (is_passed plan (opening plan) k) (is_released plan (opening plan) k)
 first_offlines plan k offline =
     subst
     (λ l. OfflineOk plan k (opening plan 0) l (is_passed plan (opening plan) k) (is_released plan (opening plan) k))

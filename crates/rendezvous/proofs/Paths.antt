@@ -1,13 +1,13 @@
 -- The go path and the drop path: what others see of a thread that takes one.
-use Rattle.std.proofs.Common.{◌≡◌, ◌≢◌, ℕ, suc, ◌+◌, ◌-◌, ◌<◌, ◌≤◌, Bool, true, false, cond, not, ◌&&◌, ◌==◌, nat_lt, nat_le, if◌then◌else◌, Option, Some, None, refl, ap, sym, ◌∙◌, subst, arith, ◌⊎◌, inl, inr, true≢false}
+use Rattle.std.proofs.Common.{◌≡◌, ◌≢◌, ℕ, ◌-◌, ◌<◌, ◌≤◌, Bool, true, false, ◌&&◌, ◌==◌, nat_lt, if◌then◌else◌, Option, Some, None, refl, ap, sym, ◌∙◌, subst, arith, inl, inr, true≢false}
 use Rattle.std.proofs.lemmas.Bool.Decides.{nat_tests}
-use Rattle.rendezvous.specs.declared.steps.Kind.TheVariants.{Online, Offline, Absent}
+use Rattle.rendezvous.specs.declared.steps.Kind.TheVariants.{Online, Offline}
 use Rattle.rendezvous.specs.declared.steps.Phase.{Phase}
 use Rattle.rendezvous.specs.declared.steps.Phase.TheVariants as phase
 use Rattle.rendezvous.specs.declared.steps.Local.{Local}
 use Rattle.rendezvous.specs.Plan.{Plan, Sound, is_offline, is_primary, offline_from, offline_count}
 use Rattle.rendezvous.specs.Padded.{Padded}
-use Rattle.rendezvous.specs.StepTable.{go_path, drop_path, to, wait_in, with_result, withdraw_at, loop_at}
+use Rattle.rendezvous.specs.StepTable.{go_path, drop_path, to, wait_in, with_result, withdraw_at}
 use Rattle.rendezvous.specs.Facets.{past_arriving, is_deciding, is_writing, is_halted, on_go, on_drop, ends_on_go, past_writing, past_reporting, past_freeing, has_kicked, has_withdrawn, has_released}
 use Rattle.rendezvous.specs.Kinds.{is_online_phase, is_zero_phase, names_offline, is_primary_phase, needs_offer, is_sibling_phase, knows_result}
 use Rattle.rendezvous.specs.Rule.{OnlineOk, mode_of, mode_by, has_write}
@@ -121,9 +121,9 @@ plain_at_sibling_wait plan t at polls mine online =
 
 -- thread 0 leaves after a drop only where no Offline thread is left
 plain_at_leaving :
-  (plan : Plan) (t at polls : ℕ) →
-  plan.kind t ≡ Online →
-  (t ≡ 0 → (k : ℕ) → plan.kind k ≡ Offline → ⊥) → Plain plan t (at_phase phase.Leaving at polls 5)
+    (plan : Plan) (t at polls : ℕ) →
+    plan.kind t ≡ Online →
+    (t ≡ 0 → (k : ℕ) → plan.kind k ≡ Offline → ⊥) → Plain plan t (at_phase phase.Leaving at polls 5)
 unfolding mode_of past_arriving is_writing is_halted past_writing past_reporting past_freeing has_kicked has_withdrawn has_released
 plain_at_leaving plan t at polls online none =
     record {
@@ -143,9 +143,9 @@ not_before : (u k : ℕ) → k ≤ u → nat_lt u k ≡ false
 not_before u k h = grind (arith, nat_tests)
 
 plain_at_withdrawing :
-  (plan : Plan) (t at polls mine : ℕ) →
-  plan.kind t ≡ Online →
-  ((k : ℕ) → plan.kind k ≡ Offline → at ≤ k) → Plain plan t (at_phase phase.Withdrawing at polls mine)
+    (plan : Plan) (t at polls mine : ℕ) →
+    plan.kind t ≡ Online →
+    ((k : ℕ) → plan.kind k ≡ Offline → at ≤ k) → Plain plan t (at_phase phase.Withdrawing at polls mine)
 unfolding mode_of past_arriving is_writing is_halted past_writing past_reporting past_freeing has_kicked has_withdrawn has_released
 plain_at_withdrawing plan t at polls mine online none =
     record {
@@ -180,8 +180,8 @@ plain_go_by plan t local true online = plain_at_reading plan t local.at local.po
 plain_go_by plan t local false online = plain_at_sibling_wait plan t local.at 0 local.mine online
 
 go_ok_by :
-  (plan : Plan) (t : ℕ) (local : Local) (passed primary : Bool) →
-  is_primary plan t ≡ primary → OnlineOk plan t (go_by plan t local primary) passed 1
+    (plan : Plan) (t : ℕ) (local : Local) (passed primary : Bool) →
+    is_primary plan t ≡ primary → OnlineOk plan t (go_by plan t local primary) passed 1
 unfolding go_by is_online_phase is_zero_phase names_offline is_primary_phase needs_offer is_sibling_phase knows_result ends_on_go on_go on_drop is_deciding
 go_ok_by plan t local passed true e =
     record {
@@ -233,8 +233,8 @@ pub record Turned (plan : Plan) (t : ℕ) (new : Local) (passed : Bool) (d : ℕ
   pub decides_not : is_deciding new.phase ≡ false
 
 go_turned_by :
-  (plan : Plan) (t : ℕ) (local : Local) (passed primary : Bool) →
-  plan.kind t ≡ Online → is_primary plan t ≡ primary → Turned plan t (go_by plan t local primary) passed 1
+    (plan : Plan) (t : ℕ) (local : Local) (passed primary : Bool) →
+    plan.kind t ≡ Online → is_primary plan t ≡ primary → Turned plan t (go_by plan t local primary) passed 1
 unfolding go_by is_deciding
 go_turned_by plan t local passed true online e =
     record {
@@ -254,15 +254,15 @@ go_turned_by plan t local passed false online e =
     }
 
 pub go_turned :
-  (plan : Plan) (t : ℕ) (local : Local) (passed : Bool) →
-  plan.kind t ≡ Online → Turned plan t (go_path plan t local) passed 1
+    (plan : Plan) (t : ℕ) (local : Local) (passed : Bool) →
+    plan.kind t ≡ Online → Turned plan t (go_path plan t local) passed 1
 unfolding go_by
 go_turned plan t local passed online = go_turned_by plan t local passed (is_primary plan t) online refl
 
 -- The drop path.
 
 leaving_ok :
-  (plan : Plan) (t at polls d : ℕ) (passed : Bool) → 2 ≤ d → OnlineOk plan t (at_phase phase.Leaving at polls 5) passed d
+    (plan : Plan) (t at polls d : ℕ) (passed : Bool) → 2 ≤ d → OnlineOk plan t (at_phase phase.Leaving at polls 5) passed d
 unfolding is_online_phase is_zero_phase names_offline is_primary_phase needs_offer is_sibling_phase knows_result ends_on_go on_go on_drop is_deciding
 leaving_ok plan t at polls d passed dropped =
     record {
@@ -286,10 +286,10 @@ leaving_ok plan t at polls d passed dropped =
     }
 
 withdrawing_ok :
-  (plan : Plan) (t at polls d : ℕ) (passed : Bool) →
-  2 ≤ d →
-  t ≡ 0 →
-  plan.kind at ≡ Offline → 0 < offline_count plan → OnlineOk plan t (at_phase phase.Withdrawing at polls 5) passed d
+    (plan : Plan) (t at polls d : ℕ) (passed : Bool) →
+    2 ≤ d →
+    t ≡ 0 →
+    plan.kind at ≡ Offline → 0 < offline_count plan → OnlineOk plan t (at_phase phase.Withdrawing at polls 5) passed d
 unfolding is_online_phase is_zero_phase names_offline is_primary_phase needs_offer is_sibling_phase knows_result ends_on_go on_go on_drop is_deciding
 withdrawing_ok plan t at polls d passed dropped zero offline some =
     record {
@@ -323,11 +323,11 @@ drop_by plan t local is_first first =
     if is_first then withdraw_at (record local { mine = 5 }) first else with_result local 5 phase.Leaving
 
 drop_turned_by :
-  (plan : Plan) (t : ℕ) (local : Local) (passed : Bool) (d : ℕ) (is_first : Bool) (first : Option ℕ) →
-  Sound plan →
-  Padded plan →
-  plan.kind t ≡ Online →
-  2 ≤ d → (t == 0) ≡ is_first → offline_from plan 0 ≡ first → Turned plan t (drop_by plan t local is_first first) passed d
+    (plan : Plan) (t : ℕ) (local : Local) (passed : Bool) (d : ℕ) (is_first : Bool) (first : Option ℕ) →
+    Sound plan →
+    Padded plan →
+    plan.kind t ≡ Online →
+    2 ≤ d → (t == 0) ≡ is_first → offline_from plan 0 ≡ first → Turned plan t (drop_by plan t local is_first first) passed d
 unfolding drop_by is_deciding
 drop_turned_by plan t local passed d true (Some k) sound padded online dropped zero e =
     let z : t ≡ 0 = grind (arith, nat_tests) in
@@ -344,8 +344,8 @@ drop_turned_by plan t local passed d true (Some k) sound padded online dropped z
     lowest : (u : ℕ) → First (λ v. is_offline (plan.kind v)) 0 plan.threads k → plan.kind u ≡ Offline → k ≤ u
     lowest u first f =
         elim (cases_lt u k) [
-          inl before ↦ absurd (true≢false (sym (ap is_offline f) ∙ first.before u (omega arith) before))
-        | inr after ↦ after
+          | inl before ↦ absurd (true≢false (sym (ap is_offline f) ∙ first.before u (omega arith) before))
+          | inr after ↦ after
         ]
 drop_turned_by plan t local passed d true None sound padded online dropped zero e =
     record {
@@ -358,8 +358,8 @@ drop_turned_by plan t local passed d true None sound padded online dropped zero 
 drop_turned_by plan t local passed d false first sound padded online dropped zero e =
     record {
       plain =
-        plain_at_leaving plan t local.at local.polls online
-        (λ z k f. true≢false (sym (zero_is t z) ∙ zero));
+          plain_at_leaving plan t local.at local.polls online
+          (λ z k f. true≢false (sym (zero_is t z) ∙ zero));
       ok = leaving_ok plan t local.at local.polls d passed dropped;
       waits_not = λ f. cc;
       releases_not = λ f. cc;
@@ -370,8 +370,8 @@ drop_turned_by plan t local passed d false first sound padded online dropped zer
     zero_is n e = grind (arith, nat_tests)
 
 pub drop_turned :
-  (plan : Plan) (t : ℕ) (local : Local) (passed : Bool) (d : ℕ) →
-  Sound plan → Padded plan → plan.kind t ≡ Online → 2 ≤ d → Turned plan t (drop_path plan t local) passed d
+    (plan : Plan) (t : ℕ) (local : Local) (passed : Bool) (d : ℕ) →
+    Sound plan → Padded plan → plan.kind t ≡ Online → 2 ≤ d → Turned plan t (drop_path plan t local) passed d
 unfolding drop_by
 drop_turned plan t local passed d sound padded online dropped =
     drop_turned_by plan t local passed d (t == 0) (offline_from plan 0) sound padded online dropped refl refl

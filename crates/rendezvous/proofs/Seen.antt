@@ -17,15 +17,15 @@ use Rattle.rendezvous.proofs.Opening.{at_first, first_awaited, first_deciding}
 
 -- two states that agree everywhere are one
 pub same_state :
-  (a b : State) →
-  ((u : ℕ) → a.place u ≡ b.place u) →
-  ((u : ℕ) → a.kicked u ≡ b.kicked u) →
-  ((u : ℕ) → a.arrived u ≡ b.arrived u) →
-  ((u : ℕ) → a.freed u ≡ b.freed u) →
-  ((u : ℕ) → a.latched u ≡ b.latched u) →
-  a.stage ≡ b.stage →
-  ((u : ℕ) → a.is_decider u ≡ b.is_decider u) →
-  ((g : ℕ) → a.group g ≡ b.group g) → ((g : ℕ) → a.revision g ≡ b.revision g) → a ≡ b
+    (a b : State) →
+    ((u : ℕ) → a.place u ≡ b.place u) →
+    ((u : ℕ) → a.kicked u ≡ b.kicked u) →
+    ((u : ℕ) → a.arrived u ≡ b.arrived u) →
+    ((u : ℕ) → a.freed u ≡ b.freed u) →
+    ((u : ℕ) → a.latched u ≡ b.latched u) →
+    a.stage ≡ b.stage →
+    ((u : ℕ) → a.is_decider u ≡ b.is_decider u) →
+    ((g : ℕ) → a.group g ≡ b.group g) → ((g : ℕ) → a.revision g ≡ b.revision g) → a ≡ b
 same_state a b place kicked arrived freed latched stage decider group revision =
     λ i. record {
       place = λ u. place u i;
@@ -41,16 +41,16 @@ same_state a b place kicked arrived freed latched stage decider group revision =
 
 -- of the others, an Online thread is awaited by its phase
 not_arrived_other :
-  (kind : Kind) (is_first zero_arrived : Bool) (local : Local) →
-  is_first ≡ false →
-  (is_online kind && not (arrived_of kind is_first zero_arrived local)) ≡ (is_online kind && not (past_arriving local.phase))
+    (kind : Kind) (is_first zero_arrived : Bool) (local : Local) →
+    is_first ≡ false →
+    (is_online kind && not (arrived_of kind is_first zero_arrived local)) ≡ (is_online kind && not (past_arriving local.phase))
 not_arrived_other Online is_first z local e = rw e refl
 not_arrived_other Offline is_first z local e = refl
 not_arrived_other KindAbsent is_first z local e = refl
 
 arrived_offline :
-  (kind : Kind) (is_first zero_arrived : Bool) (local : Local) →
-  (is_offline kind && arrived_of kind is_first zero_arrived local) ≡ (is_offline kind && has_counted local.phase)
+    (kind : Kind) (is_first zero_arrived : Bool) (local : Local) →
+    (is_offline kind && arrived_of kind is_first zero_arrived local) ≡ (is_offline kind && has_counted local.phase)
 arrived_offline Online is_first z local = refl
 arrived_offline Offline is_first z local = refl
 arrived_offline KindAbsent is_first z local = refl
@@ -60,18 +60,18 @@ not_zero u h = grind (arith, nat_tests)
 
 -- the Online threads that have not arrived are thread 0, where it has not, and the others that are awaited
 pub still_awaited_is :
-  (plan : Plan) (locals : ℕ → Local) (zero_arrived : Bool) →
-  Sound plan →
-  still_awaited plan (λ u. arrived_of (plan.kind u) (u == 0) zero_arrived (locals u))
-  ≡ cond zero_arrived 0 1 + awaited plan locals
+    (plan : Plan) (locals : ℕ → Local) (zero_arrived : Bool) →
+    Sound plan →
+    still_awaited plan (λ u. arrived_of (plan.kind u) (u == 0) zero_arrived (locals u))
+    ≡ cond zero_arrived 0 1 + awaited plan locals
 unfolding still_awaited awaited
 still_awaited_is plan locals z sound =
     let missing = λ (u : ℕ). is_online (plan.kind u) && not (arrived_of (plan.kind u) (u == 0) z (locals u)) in
     let others : count missing 1 (plan.threads - 1)
-      ≡ count (λ u. is_online (plan.kind u) && not (past_arriving (locals u).phase)) 1 (plan.threads - 1) =
-      count_same_from _ _ 1 (plan.threads - 1) (λ u h. not_arrived_other (plan.kind u) (u == 0) z (locals u) (not_zero u h)) in
+    ≡ count (λ u. is_online (plan.kind u) && not (past_arriving (locals u).phase)) 1 (plan.threads - 1) =
+    count_same_from _ _ 1 (plan.threads - 1) (λ u h. not_arrived_other (plan.kind u) (u == 0) z (locals u) (not_zero u h)) in
     let first : cond (missing 0) 1 0 ≡ cond z 0 1 =
-      ap (λ k. cond (is_online k && not (arrived_of k true z (locals 0))) 1 0) sound.thread_0_is_online ∙ turned z in
+    ap (λ k. cond (is_online k && not (arrived_of k true z (locals 0))) 1 0) sound.thread_0_is_online ∙ turned z in
     count_zero_first plan missing sound.some_thread ∙ rw (first, others) refl
   where
     turned : (b : Bool) → cond {A = ℕ} (not b) 1 0 ≡ cond b 0 1
@@ -79,14 +79,14 @@ still_awaited_is plan locals z sound =
     turned false = refl
 
 pub offline_arrived_is :
-  (plan : Plan) (locals : ℕ → Local) (zero_arrived : Bool) →
-  offline_arrived plan (λ u. arrived_of (plan.kind u) (u == 0) zero_arrived (locals u)) ≡ counted plan locals
+    (plan : Plan) (locals : ℕ → Local) (zero_arrived : Bool) →
+    offline_arrived plan (λ u. arrived_of (plan.kind u) (u == 0) zero_arrived (locals u)) ≡ counted plan locals
 unfolding offline_arrived counted
 offline_arrived_is plan locals z =
     count_same _ _ 0 (plan.threads - 0) (λ u. arrived_offline (plan.kind u) (u == 0) z (locals u))
 
 shown_arrive :
-  (n m : ℕ) → (n ≡ m) ⊎ (n ≡ m + 1) → n ≡ cond (n == m) 0 1 + m
+    (n m : ℕ) → (n ≡ m) ⊎ (n ≡ m + 1) → n ≡ cond (n == m) 0 1 + m
 shown_arrive n m h = grind (arith, nat_tests)
 
 second : (a b : Bool) → (a && b) ≡ true → b ≡ true

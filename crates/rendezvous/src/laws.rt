@@ -1,17 +1,29 @@
 //! Laws of the definitions: each is the contract of a function that does nothing.
 
+ghost use Rattle.rendezvous.specs.declared.steps.Phase.TheVariants.{Waiting, Deciding};
+ghost use Rattle.rendezvous.specs.declared.steps.How.TheVariants.{Step, Timeout};
+ghost use Rattle.rendezvous.specs.OneStep.{KeepsTheRule};
 ghost use Rattle.rendezvous.specs.Laws.{OpeningIsRuled, OpeningIsShown, RuledShows, ShowsOne};
 
 /// The rule between steps holds when a rendezvous begins, and what stands there shows the opening state of the model.
 pub fn opening_keeps_the_rule()
     ensures ruled { OpeningIsRuled }
     ensures shown { OpeningIsShown }
-{
-}
+{}
 
 /// A moment with the rule shows a state of the model, and only one.
 pub fn the_rule_shows_one_state()
     ensures shows { RuledShows }
     ensures one { ShowsOne }
-{
-}
+{}
+
+/// A thread that waits for the decision, and is out of patience, keeps the rule: it drops, or takes the path that it finds.
+pub fn drop_keeps_the_rule()
+    ensures { KeepsTheRule Waiting Timeout }
+{}
+
+/// The thread that arrived last keeps the rule: it decides that the load goes on, or finds that another dropped.
+pub fn go_keeps_the_rule()
+    ensures step { KeepsTheRule Deciding Step }
+    ensures timeout { KeepsTheRule Deciding Timeout }
+{}
