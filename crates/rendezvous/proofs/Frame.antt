@@ -160,3 +160,14 @@ offline_kept plan k z z' l l' p p' r r' kicked withdrawn same same_p same_r ok =
     } in
     subst (λ x. OfflineOk plan k z' x p' r') (sym same)
     (subst (λ x. OfflineOk plan k z' l x r') (sym same_p) (subst (λ x. OfflineOk plan k z' l p x) (sym same_r) there))
+
+-- an Offline thread's part of the rule, along equations
+pub offline_moved :
+    (plan : Plan) (k : ℕ) (first first' local local' : Local) (passed passed' released released' : Bool) →
+    first' ≡ first →
+    local' ≡ local →
+    passed' ≡ passed → released' ≡ released → OfflineOk plan k first local passed released → OfflineOk plan k first' local' passed' released'
+offline_moved plan k z z' l l' p p' r r' same_z same_l same_p same_r ok =
+    subst (λ x. OfflineOk plan k x l' p' r') (sym same_z)
+    (subst (λ x. OfflineOk plan k z x p' r') (sym same_l)
+    (subst (λ x. OfflineOk plan k z l x r') (sym same_p) (subst (λ x. OfflineOk plan k z l p x) (sym same_r) ok)))

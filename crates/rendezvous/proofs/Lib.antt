@@ -9,3 +9,4 @@ mod Paths
 mod Moved
 mod Waiting
 mod Deciding
+mod Kicking

@@ -66,7 +66,7 @@ pub ctrl_free : (passed released : Bool) (result : ℕ) → (ctrl_of false passe
 unfolding ctrl_of
 ctrl_free passed released result = free_ctrl passed released (result == 1)
 
-place_in : (kind : Kind) (mode ctrl nmi : ℕ) → kind ≡ Online → mode ≡ 1 → (ctrl == 3) ≡ false → place_of kind mode ctrl nmi ≡ In
+pub place_in : (kind : Kind) (mode ctrl nmi : ℕ) → kind ≡ Online → mode ≡ 1 → (ctrl == 3) ≡ false → place_of kind mode ctrl nmi ≡ In
 place_in kind mode ctrl nmi k m c = rw (k, m, c) refl
 
 pub plain_is_in :

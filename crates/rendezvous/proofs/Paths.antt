@@ -51,7 +51,7 @@ quiet plan t old new o n =
       released = λ z k e. n.released z k e ∙ sym (o.released z k e);
     }
 
-no_write : (writes : Bool) → ◌≡◌ {A = ℕ} (if writes && false then 2 else 1) 1
+pub no_write : (writes : Bool) → ◌≡◌ {A = ℕ} (if writes && false then 2 else 1) 1
 no_write true = refl
 no_write false = refl
 

@@ -1,6 +1,6 @@
 //! Laws of the definitions: each is the contract of a function that does nothing.
 
-ghost use Rattle.rendezvous.specs.declared.steps.Phase.TheVariants.{Waiting, Deciding};
+ghost use Rattle.rendezvous.specs.declared.steps.Phase.TheVariants.{Kicking, Deciding, Waiting};
 ghost use Rattle.rendezvous.specs.declared.steps.How.TheVariants.{Step, Timeout};
 ghost use Rattle.rendezvous.specs.OneStep.{KeepsTheRule};
 ghost use Rattle.rendezvous.specs.Laws.{OpeningIsRuled, OpeningIsShown, RuledShows, ShowsOne};
@@ -26,4 +26,10 @@ pub fn drop_keeps_the_rule()
 pub fn go_keeps_the_rule()
     ensures step { KeepsTheRule Deciding Step }
     ensures timeout { KeepsTheRule Deciding Timeout }
+{}
+
+/// Thread 0 keeps the rule where it kicks an Offline thread.
+pub fn kick_keeps_the_rule()
+    ensures step { KeepsTheRule Kicking Step }
+    ensures timeout { KeepsTheRule Kicking Timeout }
 {}
