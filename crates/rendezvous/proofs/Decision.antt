@@ -49,7 +49,7 @@ pub record Decided (plan : Plan) (words : Families) (locals : ℕ → Local) (t 
   pub zero_dropped : d ≡ 3 → (words.arrive ≡ awaited plan locals) × (1 < online_count plan)
 
 -- a phase of thread 0 that the change does not lead to was its phase before
-same_phase :
+pub same_phase :
     (locals : ℕ → Local) (t : ℕ) (new : Local) (u : ℕ) (at : Phase) →
     new.phase ≢ at → (put locals t new u).phase ≡ at → (u ≢ t) × ((locals u).phase ≡ at)
 same_phase locals t new u at other e =
@@ -74,14 +74,14 @@ arrives_not : (new : Local) → past_arriving new.phase ≡ true → new.phase �
 unfolding past_arriving
 arrives_not new past e = true≢false (sym past ∙ ap past_arriving e)
 
-present : (plan : Plan) (t u : ℕ) → plan.kind t ≡ Online → plan.kind u ≡ Absent → u ≢ t
+pub present : (plan : Plan) (t u : ℕ) → plan.kind t ≡ Online → plan.kind u ≡ Absent → u ≢ t
 present plan t u online absent e = let same : Absent ≡ Online = sym absent ∙ ap plan.kind e ∙ online in cc
 
 is_zero : (locals : ℕ → Local) (t : ℕ) (new : Local) → 0 ≢ t → put locals t new 0 ≡ locals 0
 is_zero locals t new other = put_other locals t 0 new other
 
 -- the thread that thread 0 releases is Offline, and so another than the one that changes
-zero_releases_kept :
+pub zero_releases_kept :
     (plan : Plan) (words : Families) (locals : ℕ → Local) (t : ℕ) (new : Local) →
     Rule plan words locals →
     plan.kind t ≡ Online →
@@ -174,7 +174,7 @@ decision_rule plan words locals t new d sound rule online quiet decided =
 no_decision : (d : ℕ) (b : Bool) → d ≢ 0 → ((d == 0) && b) ≡ false
 no_decision d b made = let e : (d == 0) ≡ false = grind (arith, nat_tests) in rw e refl
 
-arrived_same :
+pub arrived_same :
     (kind : Kind) (is_first z : Bool) (local new : Local) →
     (kind ≡ Online → past_arriving new.phase ≡ past_arriving local.phase) →
     (kind ≡ Offline → has_counted new.phase ≡ has_counted local.phase) →

@@ -143,7 +143,7 @@ wait_ok plan at polls mine decide passed some =
       result_after_drop = λ f. cc;
     }
 
-before_next : (u k l : ℕ) → u ≢ k → (u < l → k + 1 ≤ u → ⊥) → k < l → nat_lt u l ≡ nat_lt u k
+pub before_next : (u k l : ℕ) → u ≢ k → (u < l → k + 1 ≤ u → ⊥) → k < l → nat_lt u l ≡ nat_lt u k
 before_next u k l other none low =
     elim (cases_lt u k) [
       | inl before ↦ let a : nat_lt u l ≡ true = grind (arith, nat_tests) in let b : nat_lt u k ≡ true = grind (arith, nat_tests) in a ∙ sym b

@@ -10,3 +10,6 @@ mod Moved
 mod Waiting
 mod Deciding
 mod Kicking
+mod Freeing
+mod Freed
+mod Gone
