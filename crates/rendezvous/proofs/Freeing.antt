@@ -1,5 +1,5 @@
 -- A primary frees another thread of its group.
-use Rattle.std.proofs.Common.{◌≡◌, ◌≢◌, ℕ, suc, ◌+◌, ◌-◌, ◌<◌, ◌≤◌, Bool, true, false, not, ◌&&◌, ◌||◌, ◌==◌, nat_lt, nat_le, if◌then◌else◌, Option, Some, None, is_some, refl, ap, sym, ◌∙◌, subst, arith, ◌⊎◌, inl, inr, true≢false}
+use Rattle.std.proofs.Common.{◌≡◌, ◌≢◌, ℕ, ◌+◌, ◌-◌, ◌<◌, ◌≤◌, Bool, true, false, not, ◌&&◌, ◌==◌, nat_lt, if◌then◌else◌, Option, Some, None, is_some, refl, ap, sym, ◌∙◌, arith, inl, inr, true≢false}
 use Rattle.std.proofs.lemmas.Bool.{cases_lt}
 use Rattle.std.proofs.lemmas.Bool.Decides.{nat_tests}
 use Rattle.rendezvous.specs.declared.steps.Kind.{Kind}
@@ -7,19 +7,18 @@ use Rattle.rendezvous.specs.declared.steps.Kind.TheVariants.{Online, Offline, Ab
 use Rattle.rendezvous.specs.declared.steps.Phase.{Phase}
 use Rattle.rendezvous.specs.declared.steps.Phase.TheVariants as phase
 use Rattle.rendezvous.specs.declared.steps.Local.{Local}
-use Rattle.rendezvous.specs.Plan.{Plan, Sound, is_offline, is_absent, is_primary, is_sibling, sibling_from, offline_count}
+use Rattle.rendezvous.specs.Plan.{Plan, Sound, is_offline, is_absent, is_primary, is_sibling, sibling_from}
 use Rattle.rendezvous.specs.Padded.{Padded}
 use Rattle.rendezvous.specs.Words.{Families}
-use Rattle.rendezvous.specs.StepTable.{free_at, release_of}
+use Rattle.rendezvous.specs.StepTable.{free_at}
 use Rattle.rendezvous.specs.Events.{put}
-use Rattle.rendezvous.specs.Facets.{past_arriving, has_come, has_counted, is_deciding, is_writing, is_halted, on_go, on_drop, ends_on_go, past_writing, past_reporting, past_freeing, has_kicked, has_withdrawn, has_released, releases_past, drops}
-use Rattle.rendezvous.specs.Kinds.{is_online_phase, is_offline_phase, is_zero_phase, names_offline, is_primary_phase, needs_offer, is_sibling_phase, knows_result}
-use Rattle.rendezvous.specs.Awaited.{awaited, counted}
-use Rattle.rendezvous.specs.Rule.{Rule, OnlineOk, OfflineOk, mode_of, mode_by, has_write, is_passed, is_released, ctrl_of, nmi_of, rev_of, res_of, result_in, result_for}
+use Rattle.rendezvous.specs.Facets.{past_arriving, has_come, is_deciding, is_writing, is_halted, on_go, on_drop, ends_on_go, past_writing, past_reporting, past_freeing, has_kicked, has_withdrawn, has_released, releases_past, drops}
+use Rattle.rendezvous.specs.Kinds.{is_online_phase, is_zero_phase, names_offline, is_primary_phase, needs_offer, is_sibling_phase, knows_result}
+use Rattle.rendezvous.specs.Rule.{Rule, OnlineOk, mode_of, mode_by, has_write, is_passed, is_released, result_in, result_for}
 use Rattle.rendezvous.proofs.Count.{same_or_not}
-use Rattle.rendezvous.proofs.Frame.{put_same, put_other, facet, facet_at, zero_facet, another_kind, released_kept, nmi_kept, awaited_kept, counted_kept, offline_kept}
-use Rattle.rendezvous.proofs.Search.{First, found, found_none}
-use Rattle.rendezvous.proofs.Paths.{at_phase, is_at}
+use Rattle.rendezvous.proofs.Frame.{put_same, put_other}
+use Rattle.rendezvous.proofs.Search.{found, found_none}
+use Rattle.rendezvous.proofs.Paths.{at_phase}
 use Rattle.rendezvous.proofs.Kicking.{before_next}
 
 -- What a sibling is.
@@ -75,10 +74,10 @@ pub record Freed (plan : Plan) (t s : ℕ) (old new : Local) (passed : Bool) (de
   pub ok : OnlineOk plan t new passed decide
 
 freeing_ok :
-  (plan : Plan) (t at polls mine decide : ℕ) (passed : Bool) →
-  is_primary plan t ≡ true →
-  is_sibling plan t at ≡ true →
-  mine ≡ result_in plan (plan.group t) → decide ≡ 1 → OnlineOk plan t (at_phase phase.Freeing at polls mine) passed decide
+    (plan : Plan) (t at polls mine decide : ℕ) (passed : Bool) →
+    is_primary plan t ≡ true →
+    is_sibling plan t at ≡ true →
+    mine ≡ result_in plan (plan.group t) → decide ≡ 1 → OnlineOk plan t (at_phase phase.Freeing at polls mine) passed decide
 unfolding is_online_phase is_zero_phase names_offline is_primary_phase needs_offer is_sibling_phase knows_result ends_on_go on_go on_drop is_deciding
 freeing_ok plan t at polls mine decide passed primary next result go =
     record {
@@ -102,10 +101,10 @@ freeing_ok plan t at polls mine decide passed primary next result go =
     }
 
 leaving_go_ok :
-  (plan : Plan) (t at polls mine decide : ℕ) (passed : Bool) →
-  is_primary plan t ≡ true →
-  mine ≡ result_in plan (plan.group t) →
-  (mine == 5) ≡ false → decide ≡ 1 → OnlineOk plan t (at_phase phase.Leaving at polls mine) passed decide
+    (plan : Plan) (t at polls mine decide : ℕ) (passed : Bool) →
+    is_primary plan t ≡ true →
+    mine ≡ result_in plan (plan.group t) →
+    (mine == 5) ≡ false → decide ≡ 1 → OnlineOk plan t (at_phase phase.Leaving at polls mine) passed decide
 unfolding is_online_phase is_zero_phase names_offline is_primary_phase needs_offer is_sibling_phase knows_result ends_on_go on_go on_drop is_deciding result_for
 leaving_go_ok plan t at polls mine decide passed primary result no_drop go =
     record {
@@ -138,29 +137,29 @@ result_no_drop plan g = no_five (is_some (plan.offer g)) (plan.refuse g)
     no_five false b = refl
 
 free_mode :
-  (kind : Kind) (writes : Bool) (at at' polls mine : ℕ) →
-  mode_by kind writes (at_phase phase.Freeing at' polls mine) ≡ mode_by kind writes (at_phase phase.Freeing at polls mine)
+    (kind : Kind) (writes : Bool) (at at' polls mine : ℕ) →
+    mode_by kind writes (at_phase phase.Freeing at' polls mine) ≡ mode_by kind writes (at_phase phase.Freeing at polls mine)
 free_mode Online writes at at' polls mine = refl
 free_mode Offline writes at at' polls mine = refl
 free_mode Absent writes at at' polls mine = refl
 
 leave_mode :
-  (kind : Kind) (writes : Bool) (at polls mine : ℕ) →
-  not (mine == 5) ≡ true →
-  mode_by kind writes (at_phase phase.Leaving at polls mine) ≡ mode_by kind writes (at_phase phase.Freeing at polls mine)
+    (kind : Kind) (writes : Bool) (at polls mine : ℕ) →
+    not (mine == 5) ≡ true →
+    mode_by kind writes (at_phase phase.Leaving at polls mine) ≡ mode_by kind writes (at_phase phase.Freeing at polls mine)
 leave_mode Online writes at polls mine e = rw e refl
 leave_mode Offline writes at polls mine e = refl
 leave_mode Absent writes at polls mine e = refl
 
 pub freed_by :
-  (plan : Plan) (t s polls mine decide : ℕ) (passed : Bool) (next : Option ℕ) →
-  s < plan.threads →
-  is_primary plan t ≡ true →
-  mine ≡ result_in plan (plan.group t) →
-  decide ≡ 1 →
-  ((u : ℕ) → is_sibling plan t u ≡ true → u < plan.threads) →
-  sibling_from plan t (s + 1) ≡ next →
-  Freed plan t s (at_phase phase.Freeing s polls mine) (free_at (at_phase phase.Freeing s polls mine) next) passed decide
+    (plan : Plan) (t s polls mine decide : ℕ) (passed : Bool) (next : Option ℕ) →
+    s < plan.threads →
+    is_primary plan t ≡ true →
+    mine ≡ result_in plan (plan.group t) →
+    decide ≡ 1 →
+    ((u : ℕ) → is_sibling plan t u ≡ true → u < plan.threads) →
+    sibling_from plan t (s + 1) ≡ next →
+    Freed plan t s (at_phase phase.Freeing s polls mine) (free_at (at_phase phase.Freeing s polls mine) next) passed decide
 unfolding mode_of past_arriving is_writing is_halted past_writing past_reporting past_freeing has_kicked has_withdrawn has_released is_deciding sibling_from
 freed_by plan t s polls mine decide passed (Some l) within primary result go in_range e =
     let first = found (is_sibling plan t) (s + 1) (plan.threads - (s + 1)) l e in
@@ -181,7 +180,7 @@ freed_by plan t s polls mine decide passed (Some l) within primary result go in_
       releases_not = λ f. cc;
       here = grind (arith, nat_tests);
       others = λ u f other.
-        before_next u s l other (λ under over. true≢false (sym f ∙ first.before u over under)) (omega arith);
+          before_next u s l other (λ under over. true≢false (sym f ∙ first.before u over under)) (omega arith);
       ok = freeing_ok plan t l polls mine decide passed primary first.passes result go;
     }
 freed_by plan t s polls mine decide passed None within primary result go in_range e =
@@ -203,11 +202,11 @@ freed_by plan t s polls mine decide passed None within primary result go in_rang
       releases_not = λ f. cc;
       here = goes;
       others = λ u f other. elim (cases_lt u s) [
-        inl before ↦ let a : nat_lt u s ≡ true = grind (arith, nat_tests) in goes ∙ sym a
-      | inr past ↦
-          let at_least : s + 1 ≤ u = omega arith in
-          let bound = in_range u f in
-          absurd (true≢false (sym f ∙ found_none (is_sibling plan t) (s + 1) (plan.threads - (s + 1)) e u at_least (omega arith)))
+        | inl before ↦ let a : nat_lt u s ≡ true = grind (arith, nat_tests) in goes ∙ sym a
+        | inr past ↦
+            let at_least : s + 1 ≤ u = omega arith in
+            let bound = in_range u f in
+            absurd (true≢false (sym f ∙ found_none (is_sibling plan t) (s + 1) (plan.threads - (s + 1)) e u at_least (omega arith)))
       ];
       ok = leaving_go_ok plan t s polls mine decide passed primary result no_drop go;
     }
@@ -233,8 +232,8 @@ and_false true false = refl
 and_false false b = refl
 
 pub none_released :
-  (plan : Plan) (words : Families) (locals : ℕ → Local) →
-  Sound plan → Rule plan words locals → words.decide ≡ 1 → (u : ℕ) → is_released plan locals u ≡ false
+    (plan : Plan) (words : Families) (locals : ℕ → Local) →
+    Sound plan → Rule plan words locals → words.decide ≡ 1 → (u : ℕ) → is_released plan locals u ≡ false
 unfolding is_released
 none_released plan words locals sound rule go u =
     let quiet : on_drop (locals 0) ≡ false = no_drop _ words.decide go (rule.onlines 0 sound.thread_0_is_online).drop_decided in
@@ -249,62 +248,62 @@ guarded false false x y same = same refl refl
 
 -- t is the primary of u's group, u is no primary and takes part, so u is a sibling of t
 of_primary :
-  (plan : Plan) (t u : ℕ) →
-  Sound plan →
-  Padded plan →
-  is_primary plan t ≡ true →
-  plan.primary (plan.group u) ≡ t →
-  is_absent (plan.kind u) ≡ false → is_primary plan u ≡ false → is_sibling plan t u ≡ true
+    (plan : Plan) (t u : ℕ) →
+    Sound plan →
+    Padded plan →
+    is_primary plan t ≡ true →
+    plan.primary (plan.group u) ≡ t →
+    is_absent (plan.kind u) ≡ false → is_primary plan u ≡ false → is_sibling plan t u ≡ true
 of_primary plan t u sound padded primary leads present no_primary =
     let within : u < plan.threads =
-      elim (cases_lt u plan.threads) [
-        inl low ↦ low
+    elim (cases_lt u plan.threads) [
+      | inl low ↦ low
       | inr past ↦ absurd (true≢false (sym (ap is_absent (padded.no_thread u past)) ∙ present))
-      ] in
+    ] in
     let group : plan.group u ≡ plan.group t =
-      sym (sound.primary_is_one_of_its_group (plan.group u) (sound.groups_in_range u within)) ∙ ap plan.group leads in
+    sym (sound.primary_is_one_of_its_group (plan.group u) (sound.groups_in_range u within)) ∙ ap plan.group leads in
     is_sibling_of plan t u group
     (λ e. true≢false (sym primary ∙ ap (is_primary plan) (sym e) ∙ no_primary))
     present
 
 pub passed_others :
-  (plan : Plan) (locals : ℕ → Local) (t s : ℕ) (new : Local) →
-  Sound plan →
-  Padded plan →
-  is_primary plan t ≡ true →
-  ((u : ℕ) → past_freeing u (locals t) ≡ nat_lt u s) →
-  ((u : ℕ) → is_sibling plan t u ≡ true → u ≢ s → past_freeing u new ≡ nat_lt u s) →
-  (u : ℕ) → u ≢ s → is_passed plan (put locals t new) u ≡ is_passed plan locals u
+    (plan : Plan) (locals : ℕ → Local) (t s : ℕ) (new : Local) →
+    Sound plan →
+    Padded plan →
+    is_primary plan t ≡ true →
+    ((u : ℕ) → past_freeing u (locals t) ≡ nat_lt u s) →
+    ((u : ℕ) → is_sibling plan t u ≡ true → u ≢ s → past_freeing u new ≡ nat_lt u s) →
+    (u : ℕ) → u ≢ s → is_passed plan (put locals t new) u ≡ is_passed plan locals u
 unfolding is_passed
 passed_others plan locals t s new sound padded primary old others u other =
     guarded (is_absent (plan.kind u)) (is_primary plan u) _ _
     (λ present no_primary.
-      elim (same_or_not (plan.primary (plan.group u)) t) [
-        inl leads ↦
+    elim (same_or_not (plan.primary (plan.group u)) t) [
+      | inl leads ↦
           ap (λ v. past_freeing u (put locals t new v)) leads
           ∙ ap (past_freeing u) (put_same locals t new)
           ∙ others u (of_primary plan t u sound padded primary leads present no_primary) other
           ∙ sym (old u)
           ∙ ap (λ v. past_freeing u (locals v)) (sym leads)
       | inr unlike ↦ ap (past_freeing u) (put_other locals t (plan.primary (plan.group u)) new unlike)
-      ])
+    ])
 
 -- of the sibling that is freed
-leads_sibling : (plan : Plan) (t s : ℕ) → is_primary plan t ≡ true → is_sibling plan t s ≡ true → plan.primary (plan.group s) ≡ t
+pub leads_sibling : (plan : Plan) (t s : ℕ) → is_primary plan t ≡ true → is_sibling plan t s ≡ true → plan.primary (plan.group s) ≡ t
 leads_sibling plan t s primary e =
     ap plan.primary (sibling plan t s e).same_group ∙ sym (equal_numbers t (plan.primary (plan.group t)) primary)
 
-no_primary_of : (plan : Plan) (t s : ℕ) → is_primary plan t ≡ true → is_sibling plan t s ≡ true → is_primary plan s ≡ false
+pub no_primary_of : (plan : Plan) (t s : ℕ) → is_primary plan t ≡ true → is_sibling plan t s ≡ true → is_primary plan s ≡ false
 no_primary_of plan t s primary e =
     different s (plan.primary (plan.group s)) (λ f. (sibling plan t s e).another (f ∙ leads_sibling plan t s primary e))
 
 pub passed_sibling :
-  (plan : Plan) (locals : ℕ → Local) (t s : ℕ) →
-  is_primary plan t ≡ true → is_sibling plan t s ≡ true → is_passed plan locals s ≡ past_freeing s (locals t)
+    (plan : Plan) (locals : ℕ → Local) (t s : ℕ) →
+    is_primary plan t ≡ true → is_sibling plan t s ≡ true → is_passed plan locals s ≡ past_freeing s (locals t)
 unfolding is_passed
 passed_sibling plan locals t s primary e =
     let a = (sibling plan t s e).present in
     let b = no_primary_of plan t s primary e in
     let c : past_freeing s (locals (plan.primary (plan.group s))) ≡ past_freeing s (locals t) =
-      ap (λ v. past_freeing s (locals v)) (leads_sibling plan t s primary e) in
+    ap (λ v. past_freeing s (locals v)) (leads_sibling plan t s primary e) in
     rw (a, b) c

@@ -13,3 +13,4 @@ mod Kicking
 mod Freeing
 mod Freed
 mod Gone
+mod FreeStep

@@ -1,6 +1,6 @@
 //! Laws of the definitions: each is the contract of a function that does nothing.
 
-ghost use Rattle.rendezvous.specs.declared.steps.Phase.TheVariants.{Kicking, Deciding, Waiting};
+ghost use Rattle.rendezvous.specs.declared.steps.Phase.TheVariants.{Kicking, Deciding, Waiting, Freeing};
 ghost use Rattle.rendezvous.specs.declared.steps.How.TheVariants.{Step, Timeout};
 ghost use Rattle.rendezvous.specs.OneStep.{KeepsTheRule};
 ghost use Rattle.rendezvous.specs.Laws.{OpeningIsRuled, OpeningIsShown, RuledShows, ShowsOne};
@@ -32,4 +32,10 @@ pub fn go_keeps_the_rule()
 pub fn kick_keeps_the_rule()
     ensures step { KeepsTheRule Kicking Step }
     ensures timeout { KeepsTheRule Kicking Timeout }
+{}
+
+/// A primary keeps the rule where it frees another thread of its group, or finds that it has halted.
+pub fn free_keeps_the_rule()
+    ensures step { KeepsTheRule Freeing Step }
+    ensures timeout { KeepsTheRule Freeing Timeout }
 {}

@@ -30,8 +30,8 @@ mod steps;
 pub use ends::{Beat, End};
 pub use items::{Event, Item, What};
 pub use laws::{
-    drop_keeps_the_rule, go_keeps_the_rule, kick_keeps_the_rule, opening_keeps_the_rule,
-    the_rule_shows_one_state,
+    drop_keeps_the_rule, free_keeps_the_rule, go_keeps_the_rule, kick_keeps_the_rule,
+    opening_keeps_the_rule, the_rule_shows_one_state,
 };
 pub use operations::{Op, Word};
 pub use steps::{How, Kind, Local, Phase, ThreadResult};
