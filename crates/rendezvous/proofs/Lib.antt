@@ -1,16 +1,17 @@
-mod Count
-mod Threads
-mod Opening
-mod Seen
-mod Frame
-mod Search
-mod Decision
-mod Paths
-mod Moved
-mod Waiting
-mod Deciding
-mod Kicking
-mod Freeing
-mod Freed
-mod Gone
-mod FreeStep
+pub mod Count
+pub mod Threads
+pub mod Opening
+pub mod Seen
+pub mod Frame
+pub mod Search
+pub mod Decision
+pub mod Paths
+pub mod Moved
+pub mod Waiting
+pub mod Deciding
+pub mod Kicking
+pub mod Freeing
+pub mod Freed
+pub mod Gone
+pub mod FreeStep
+pub mod Verdicts

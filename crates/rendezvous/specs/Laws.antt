@@ -6,6 +6,8 @@ use Rattle.rendezvous.specs.Words.{families}
 use Rattle.rendezvous.specs.Events.{Running, opening_running}
 use Rattle.rendezvous.specs.Round.{State, opening_state}
 use Rattle.rendezvous.specs.Shown.{Shows, shown_by}
+use Rattle.rendezvous.specs.Outcome.{Outcome}
+use Rattle.rendezvous.specs.Verdict.{Verdict, LoadVerdict, load_verdict}
 use Rattle.rendezvous.specs.OneStep.{Ruled}
 
 -- the rule holds when a rendezvous begins, and what stands there shows the model's opening
@@ -28,3 +30,11 @@ ShowsOne =
     (plan : Plan) (moment : Running) (a b : State) →
     Shows plan (families moment.words) moment.locals moment.latched a →
     Shows plan (families moment.words) moment.locals moment.latched b → a ≡ b
+
+-- every outcome has its verdict, and no other
+abbrev pub VerdictHolds : Type 0
+VerdictHolds = (plan : Plan) (outcome : Outcome) → LoadVerdict plan outcome (load_verdict plan outcome)
+
+abbrev pub VerdictIsOne : Type 0
+VerdictIsOne =
+    (plan : Plan) (outcome : Outcome) (verdict : Verdict) → LoadVerdict plan outcome verdict → verdict ≡ load_verdict plan outcome

@@ -1,6 +1,6 @@
 -- The model of a rendezvous: where each thread is, which threads were kicked, arrived and were freed, one stage for all,
--- and for each group a place and a revision. It knows no word, no phase, no count and no poll. Sets of threads are tests
--- on their numbers, and so is the decider, which is nobody or one thread.
+-- and for each group a place and a revision. Its state has no word, no phase, no counter and no poll. Sets of threads are
+-- tests on their numbers, and so is the decider, which is nobody or one thread.
 use Rattle.std.specs.Prelude.{ℕ, Bool, true, false, ◌&&◌, not, ◌==◌, count_by}
 use Rattle.rendezvous.specs.declared.steps.Kind.{Kind}
 use Rattle.rendezvous.specs.declared.steps.Kind.TheVariants.{Absent as KindAbsent}

@@ -3,7 +3,7 @@
 ghost use Rattle.rendezvous.specs.declared.steps.Phase.TheVariants.{Kicking, Deciding, Waiting, Freeing};
 ghost use Rattle.rendezvous.specs.declared.steps.How.TheVariants.{Step, Timeout};
 ghost use Rattle.rendezvous.specs.OneStep.{KeepsTheRule};
-ghost use Rattle.rendezvous.specs.Laws.{OpeningIsRuled, OpeningIsShown, RuledShows, ShowsOne};
+ghost use Rattle.rendezvous.specs.Laws.{OpeningIsRuled, OpeningIsShown, RuledShows, ShowsOne, VerdictHolds, VerdictIsOne};
 
 /// The rule between steps holds when a rendezvous begins, and what stands there shows the opening state of the model.
 pub fn opening_keeps_the_rule()
@@ -38,4 +38,10 @@ pub fn kick_keeps_the_rule()
 pub fn free_keeps_the_rule()
     ensures step { KeepsTheRule Freeing Step }
     ensures timeout { KeepsTheRule Freeing Timeout }
+{}
+
+/// Every outcome has a verdict, the first answer that holds of it, and no other.
+pub fn the_verdict_is_the_first_that_holds()
+    ensures holds { VerdictHolds }
+    ensures one { VerdictIsOne }
 {}
