@@ -15,3 +15,4 @@ pub mod Freed
 pub mod Gone
 pub mod FreeStep
 pub mod Verdicts
+pub mod Safety

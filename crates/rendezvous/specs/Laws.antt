@@ -8,6 +8,7 @@ use Rattle.rendezvous.specs.Round.{State, opening_state}
 use Rattle.rendezvous.specs.Shown.{Shows, shown_by}
 use Rattle.rendezvous.specs.Outcome.{Outcome}
 use Rattle.rendezvous.specs.Verdict.{Verdict, LoadVerdict, load_verdict}
+use Rattle.rendezvous.specs.Safe.{Safe}
 use Rattle.rendezvous.specs.OneStep.{Ruled}
 
 -- the rule holds when a rendezvous begins, and what stands there shows the model's opening
@@ -38,3 +39,8 @@ VerdictHolds = (plan : Plan) (outcome : Outcome) → LoadVerdict plan outcome (l
 abbrev pub VerdictIsOne : Type 0
 VerdictIsOne =
     (plan : Plan) (outcome : Outcome) (verdict : Verdict) → LoadVerdict plan outcome verdict → verdict ≡ load_verdict plan outcome
+
+-- a state that a moment with the rule shows is safe
+abbrev pub RuledIsSafe : Type 0
+RuledIsSafe =
+    (plan : Plan) (moment : Running) → Sound plan → Padded plan → Ruled plan moment → Safe plan (shown_by plan moment)

@@ -3,7 +3,7 @@
 ghost use Rattle.rendezvous.specs.declared.steps.Phase.TheVariants.{Kicking, Deciding, Waiting, Freeing};
 ghost use Rattle.rendezvous.specs.declared.steps.How.TheVariants.{Step, Timeout};
 ghost use Rattle.rendezvous.specs.OneStep.{KeepsTheRule};
-ghost use Rattle.rendezvous.specs.Laws.{OpeningIsRuled, OpeningIsShown, RuledShows, ShowsOne, VerdictHolds, VerdictIsOne};
+ghost use Rattle.rendezvous.specs.Laws.{OpeningIsRuled, OpeningIsShown, RuledIsSafe, RuledShows, ShowsOne, VerdictHolds, VerdictIsOne};
 
 /// The rule between steps holds when a rendezvous begins, and what stands there shows the opening state of the model.
 pub fn opening_keeps_the_rule()
@@ -44,4 +44,9 @@ pub fn free_keeps_the_rule()
 pub fn the_verdict_is_the_first_that_holds()
     ensures holds { VerdictHolds }
     ensures one { VerdictIsOne }
+{}
+
+/// A state that a moment with the rule shows is safe: no thread of a group is outside the handler while the group is written.
+pub fn the_rule_is_safe()
+    ensures { RuledIsSafe }
 {}

@@ -31,7 +31,8 @@ pub use ends::{Beat, End};
 pub use items::{Event, Item, What};
 pub use laws::{
     drop_keeps_the_rule, free_keeps_the_rule, go_keeps_the_rule, kick_keeps_the_rule,
-    opening_keeps_the_rule, the_rule_shows_one_state, the_verdict_is_the_first_that_holds,
+    opening_keeps_the_rule, the_rule_is_safe, the_rule_shows_one_state,
+    the_verdict_is_the_first_that_holds,
 };
 pub use operations::{Op, Word};
 pub use steps::{How, Kind, Local, Phase, ThreadResult};
