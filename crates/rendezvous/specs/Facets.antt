@@ -30,10 +30,6 @@ has_counted Left = true
 has_counted Halted = true
 has_counted phase = false
 
-unfoldable pub is_outside : Phase → Bool
-is_outside Outside = true
-is_outside phase = false
-
 unfoldable pub is_deciding : Phase → Bool
 is_deciding Deciding = true
 is_deciding phase = false
