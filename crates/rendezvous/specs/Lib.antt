@@ -18,5 +18,3 @@ pub mod Excluded
 pub mod Outcome
 pub mod Verdict
 pub mod Ran
-pub mod OneStep
-pub mod Laws

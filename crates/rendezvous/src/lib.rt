@@ -15,7 +15,7 @@
 //!   group is written.
 //! - `Shown`: the state of the model that words and threads' states stand for. `Rule`: what holds of these between two
 //!   steps, by way of `Facets`, `Kinds` and `Awaited`; `Padded`: what a plan's tables hold past their end. `Safe`: what is
-//!   safe of a state. `OneStep`: that a step keeps the rule and is one of the model. `Laws`: what else is proved of these.
+//!   safe of a state.
 //! - `Outcome`: what is left of a rendezvous. `Verdict`: what a load answers for it. `Ran`: what a run as a whole comes to.
 //!
 //! Its code converts numbers and names, and decides nothing.
@@ -23,16 +23,10 @@
 
 mod ends;
 mod items;
-mod laws;
 mod operations;
 mod steps;
 
 pub use ends::{Beat, End};
 pub use items::{Event, Item, What};
-pub use laws::{
-    drop_keeps_the_rule, free_keeps_the_rule, go_keeps_the_rule, kick_keeps_the_rule,
-    opening_keeps_the_rule, the_rule_is_safe, the_rule_shows_one_state,
-    the_verdict_is_the_first_that_holds,
-};
 pub use operations::{Op, Word};
 pub use steps::{How, Kind, Local, Phase, ThreadResult};

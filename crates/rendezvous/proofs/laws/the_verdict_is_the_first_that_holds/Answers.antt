@@ -1,5 +1,0 @@
-use Rattle.rendezvous.proofs.Verdicts.{verdict_holds, verdict_is_one}
-use Rattle.rendezvous.proofs.laws.the_verdict_is_the_first_that_holds.Goals as goal
-
-pub returns : goal.returns
-returns c = record { holds = verdict_holds; one = verdict_is_one }
