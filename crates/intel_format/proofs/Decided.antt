@@ -15,7 +15,7 @@ use Rattle.intel_format.specs.Date.{NamesDay, AreDigits, month_byte, day_byte, c
 abbrev pub Decided : Type 0 → Type 0
 Decided P = P ⊎ (P → ⊥)
 
-decided_le : (a b : ℕ) → Decided (a ≤ b)
+pub decided_le : (a b : ℕ) → Decided (a ≤ b)
 decided_le a b = elim (cases_lt b a) [ inl more ↦ inr (λ less. omega arith) | inr less ↦ inl less ]
 
 both : {P Q : Type 0} → Decided P → Decided Q → Decided (P × Q)

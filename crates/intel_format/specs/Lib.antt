@@ -1,4 +1,5 @@
 pub mod Checks
 pub mod Date
+pub mod File
 pub mod Header
 pub mod Update

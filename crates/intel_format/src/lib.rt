@@ -9,5 +9,6 @@
 #![tactic(auto)]
 
 mod header;
+pub mod laws;
 
 pub use header::IntelHeader;

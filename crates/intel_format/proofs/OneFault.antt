@@ -1,0 +1,156 @@
+-- Bytes have a reading or a fault and never both, and at most one fault.
+use Rattle.std.proofs.Common.{◌≡◌, ◌≢◌, inl, inr, ℕ, ◌<◌, ◌≤◌, List, [], ◌∷◌, ◌++◌, length, take, drop, sym, ◌∙◌, ap, subst, refl, arith, append_assoc, length-append, take-append-drop, length-take}
+use Rattle.std.specs.Prelude.{◌==◌, if◌then◌else◌}
+use Rattle.std.proofs.lemmas.Bool.{cases_lt, cases_eq}
+use Rattle.std.proofs.lemmas.List.{take_at, drop_at, take_all}
+use Rattle.uc_bytes.specs.declared.causes.FileCause.{FileCause}
+use Rattle.uc_bytes.specs.declared.causes.FileCause.TheVariants.{Short, SizeUnaligned, TotalSmall, DataPastTotal, Version, Truncated, ExtCut, ExtCount, ExtSum, EntrySum, Sum, TooMany}
+use Rattle.intel_format.specs.Update.{IntelUpdate}
+use Rattle.intel_format.specs.Checks.{Fails, IsFirstFault, check_place}
+use Rattle.intel_format.specs.File.{FileUpdate, AreUpdates, joined, IntelFile, IsFault}
+use Rattle.intel_format.proofs.OneReading.{one_front, one_reading}
+use Rattle.intel_format.proofs.Passes.{update_passes}
+
+-- an update at the front of bytes
+pub record Front (bytes : List ℕ) : Type 0 where
+  pub update : FileUpdate
+  pub rest : List ℕ
+  pub is : IntelUpdate update.bytes update.header update.pairs
+  pub split : bytes ≡ update.bytes ++ rest
+
+-- where some updates reach further than others, an update begins behind those others, and there are fewer of them
+further : (us vs : List FileUpdate) (rest more : List ℕ) → AreUpdates us → AreUpdates vs → joined us ++ rest ≡ joined vs ++ more → length (joined us) < length (joined vs) → Front rest × (length us < length vs)
+further [] [] rest more first second same longer = absurd (omega arith)
+further [] (v ∷ vs) rest more first second same longer = (
+  record { update = v; rest = joined vs ++ more; is = second.0; split = same ∙ append_assoc v.bytes (joined vs) more },
+  omega arith,
+)
+further (u ∷ us) [] rest more first second same longer = absurd (omega arith)
+further (u ∷ us) (v ∷ vs) rest more first second same longer =
+    let front = one_front u v (joined us ++ rest) (joined vs ++ more) first.0 second.0
+    (sym (append_assoc u.bytes (joined us) rest) ∙ same ∙ append_assoc v.bytes (joined vs) more) in
+    let shorter : length (joined us) < length (joined vs) =
+    omega (arith, longer, ap (λ (w : FileUpdate). length w.bytes) front.0, length-append u.bytes (joined us), length-append v.bytes (joined vs)) in
+    let behind = further us vs rest more first.1 second.1 front.1 shorter in
+    (behind.0, omega (arith, behind.1))
+
+-- no update begins where a check fails
+no_front : (before : ℕ) (rest : List ℕ) (cause : FileCause) → before < 65536 → Front rest → Fails before rest cause → ⊥
+no_front before rest cause few front fails =
+    update_passes before front.update front.rest cause few front.is (subst (λ (l : List ℕ). Fails before l cause) front.split fails)
+
+-- so no longer front of the bytes is a file
+pub longest : (us : List FileUpdate) (rest : List ℕ) (cause : FileCause) (n : ℕ) (others : List FileUpdate) → AreUpdates us → Fails (length us) rest cause → length (joined us) < n
+    → n ≤ length (joined us ++ rest) → IntelFile (take n (joined us ++ rest)) others → ⊥
+longest us rest cause n others each fails past within file =
+    let bytes = joined us ++ rest in
+    let split : bytes ≡ joined others ++ drop n bytes = sym (take-append-drop n bytes) ∙ ap (λ (l : List ℕ). l ++ drop n bytes) file.whole in
+    let long : length (take n bytes) ≡ n = simp length-take (omega arith) in
+    let behind = further us others rest (drop n bytes) each file.each split (omega (arith, ap length file.whole)) in
+    no_front (length us) rest cause (omega (arith, behind.1, file.few)) behind.0 fails
+
+pub never_both : (bytes : List ℕ) (us : List FileUpdate) (offset : ℕ) (cause : FileCause) → IntelFile bytes us → IsFault bytes offset cause → ⊥
+never_both bytes us offset cause file fault =
+    fault.longest (length bytes) us (omega (arith, fault.place, fault.left, ap length fault.split, length-append (joined fault.updates) fault.rest)) (omega arith)
+    (subst (λ (l : List ℕ). IntelFile l us) (sym (take_all (length bytes) bytes (omega arith))) file)
+
+-- the cause by its check's place, and by the number of the entry where it has one
+abbrev pub cause_at : ℕ → ℕ → FileCause
+cause_at place entry =
+    if place == 1 then TooMany else
+    if place == 2 then Short else
+    if place == 3 then SizeUnaligned else
+    if place == 4 then TotalSmall else
+    if place == 5 then DataPastTotal else
+    if place == 6 then Version else
+    if place == 7 then Truncated else
+    if place == 8 then ExtCut else
+    if place == 9 then ExtCount else
+    if place == 10 then ExtSum else
+    if place == 11 then EntrySum entry else Sum
+
+abbrev pub entry_of : FileCause → ℕ
+entry_of (EntrySum i) = i
+entry_of cause = 0
+
+pub named : (before : ℕ) (bytes : List ℕ) (cause : FileCause) → Fails before bytes cause → cause ≡ cause_at (check_place cause) (entry_of cause)
+named before bytes TooMany fails = refl
+named before bytes Short fails = refl
+named before bytes SizeUnaligned fails = refl
+named before bytes TotalSmall fails = refl
+named before bytes DataPastTotal fails = refl
+named before bytes Version fails = refl
+named before bytes Truncated fails = refl
+named before bytes ExtCut fails = refl
+named before bytes ExtCount fails = refl
+named before bytes ExtSum fails = refl
+named before bytes (EntrySum i) fails = refl
+named before bytes Sum fails = refl
+named before bytes cause fails = absurd fails.1
+
+-- only the check of an entry stands at its place
+at_entry : (cause : FileCause) → check_place cause ≡ 11 → cause ≡ EntrySum (entry_of cause)
+at_entry (EntrySum i) is = refl
+at_entry cause is = absurd (omega arith)
+
+not_at_entry : (cause : FileCause) → check_place cause ≢ 11 → entry_of cause ≡ 0
+not_at_entry (EntrySum i) other = absurd (other refl)
+not_at_entry cause other = refl
+
+-- two entries that are each the first bad one are one
+first_bad : (before : ℕ) (bytes : List ℕ) (i j : ℕ) → Fails before bytes (EntrySum i) → Fails before bytes (EntrySum j) → i ≡ j
+first_bad before bytes i j first second = elim (cases_lt i j) [
+  | inl less ↦ absurd (first.1.1 (second.1.2 i less))
+  | inr not_less ↦ elim (cases_lt j i) [
+    | inl more ↦ absurd (second.1.1 (first.1.2 j more))
+    | inr not_more ↦ omega arith
+  ]
+]
+
+one_entry : (before : ℕ) (bytes : List ℕ) (c d : FileCause) → Fails before bytes c → Fails before bytes d → check_place c ≡ check_place d → entry_of c ≡ entry_of d
+one_entry before bytes c d first second same = elim (cases_eq (check_place c) 11) [
+  | inl at ↦
+      first_bad before bytes (entry_of c) (entry_of d) (subst (Fails before bytes) (at_entry c at) first) (subst (Fails before bytes) (at_entry d (sym same ∙ at)) second)
+  | inr other ↦ not_at_entry c other ∙ sym (not_at_entry d (λ at. other (same ∙ at)))
+]
+
+-- the first check that fails is one
+one_cause : (before : ℕ) (bytes : List ℕ) (c d : FileCause) → IsFirstFault before bytes c → IsFirstFault before bytes d → c ≡ d
+one_cause before bytes c d first second = elim (cases_lt (check_place c) (check_place d)) [
+  | inl earlier ↦ absurd (second.first c earlier first.fails)
+  | inr not_earlier ↦ elim (cases_lt (check_place d) (check_place c)) [
+    | inl later ↦ absurd (first.first d later second.fails)
+    | inr not_later ↦
+        let same : check_place c ≡ check_place d = omega arith in
+        let entries = one_entry before bytes c d first.fails second.fails same in
+        named before bytes c first.fails ∙ ap (λ (place : ℕ). cause_at place (entry_of c)) same ∙ ap (λ (entry : ℕ). cause_at (check_place d) entry) entries ∙ sym (named before bytes d second.fails)
+  ]
+]
+
+-- a fault lies no further than another, since no update begins there
+not_further : (bytes : List ℕ) (m n : ℕ) (c d : FileCause) (first : IsFault bytes m c) (second : IsFault bytes n d) → length (joined first.updates) < length (joined second.updates) → ⊥
+not_further bytes m n c d first second longer =
+    let behind = further first.updates second.updates first.rest second.rest first.file.each second.file.each (sym first.split ∙ second.split) longer in
+    no_front (length first.updates) first.rest c (omega (arith, behind.1, second.file.few)) behind.0 first.first.fails
+
+pub one_fault : (bytes : List ℕ) (m n : ℕ) (c d : FileCause) → IsFault bytes m c → IsFault bytes n d → (m ≡ n) × (c ≡ d)
+one_fault bytes m n c d first second = elim (cases_lt (length (joined first.updates)) (length (joined second.updates))) [
+  | inl less ↦ absurd (not_further bytes m n c d first second less)
+  | inr not_less ↦ elim (cases_lt (length (joined second.updates)) (length (joined first.updates))) [
+    | inl more ↦ absurd (not_further bytes n m d c second first more)
+    | inr not_more ↦
+        let same : length (joined first.updates) ≡ length (joined second.updates) = omega arith in
+        let whole : joined first.updates ++ first.rest ≡ joined second.updates ++ second.rest = sym first.split ∙ second.split in
+        let n = length (joined first.updates) in
+        let fronts : joined first.updates ≡ joined second.updates =
+        sym (take_at (joined first.updates) first.rest n refl) ∙ ap (λ (l : List ℕ). take n l) whole ∙ take_at (joined second.updates) second.rest n (sym same) in
+        let rests : first.rest ≡ second.rest =
+        sym (drop_at (joined first.updates) first.rest n refl) ∙ ap (λ (l : List ℕ). drop n l) whole ∙ drop_at (joined second.updates) second.rest n (sym same) in
+        let updates = one_reading first.updates second.updates first.file.each second.file.each fronts in
+        let here : IsFirstFault (length second.updates) second.rest c =
+        subst (λ (l : List ℕ). IsFirstFault (length second.updates) l c) rests (subst (λ (us : List FileUpdate). IsFirstFault (length us) first.rest c) updates first.first) in (
+          first.place ∙ same ∙ sym second.place,
+          one_cause (length second.updates) second.rest c d here second.first,
+        )
+  ]
+]

@@ -1,0 +1,21 @@
+//! Laws of the definitions: each is the contract of a function that does nothing.
+ghost use Rattle.std.specs.Prelude.{◌≡◌, ◌⊎◌, ℕ, List};
+ghost use Rattle.uc_bytes.specs.declared.causes.FileCause.{FileCause};
+ghost use Rattle.intel_format.specs.File.{FileUpdate, IntelFile, IsFault};
+
+/// Bytes are an Intel file in at most one way.
+pub fn one_reading()
+    ensures { (bytes : List ℕ) (us vs : List FileUpdate) → IntelFile bytes us → IntelFile bytes vs → us ≡ vs }
+{
+}
+
+/// Bytes are an Intel file or have a first fault, never both, and no two faults.
+pub fn reading_or_fault()
+    ensures some { (bytes : List ℕ) → ((us : List FileUpdate) × IntelFile bytes us)
+        ⊎ ((offset : ℕ) × (cause : FileCause) × IsFault bytes offset cause) }
+    ensures never_both { (bytes : List ℕ) (us : List FileUpdate) (offset : ℕ) (cause : FileCause)
+        → IntelFile bytes us → IsFault bytes offset cause → ⊥ }
+    ensures one_fault { (bytes : List ℕ) (m n : ℕ) (c d : FileCause)
+        → IsFault bytes m c → IsFault bytes n d → (m ≡ n) × (c ≡ d) }
+{
+}
