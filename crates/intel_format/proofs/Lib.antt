@@ -1,3 +1,4 @@
+pub mod Begins
 pub mod Checked
 pub mod Decided
 pub mod Front

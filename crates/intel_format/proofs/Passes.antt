@@ -32,7 +32,7 @@ table_passes triple table pairs ExtSum is fails = fails is.sum
 table_passes triple table pairs (EntrySum i) is fails = fails.1 (is.sums i fails.0)
 table_passes triple table pairs cause is fails = absurd fails
 
-some_table : (triple : ℕ) (table : List ℕ) (pairs : List (ℕ × ℕ)) (cause : FileCause) → IsTable triple table pairs → 0 < length table → TableFails triple table cause → ⊥
+pub some_table : (triple : ℕ) (table : List ℕ) (pairs : List (ℕ × ℕ)) (cause : FileCause) → IsTable triple table pairs → 0 < length table → TableFails triple table cause → ⊥
 some_table triple table pairs cause (inl none) long fails = absurd (omega (arith, ap length none.0))
 some_table triple table pairs cause (inr is) long fails = table_passes triple table pairs cause is fails
 

@@ -1,17 +1,15 @@
 -- Bytes have a reading or a fault.
-use Rattle.std.proofs.Common.{◌≡◌, ◌≢◌, ◌⊎◌, inl, inr, ℕ, zero, suc, ◌+◌, ◌<◌, ◌≤◌, List, [], ◌∷◌, ◌++◌, length, map, take, drop, sym, ◌∙◌, ap, subst, refl, arith, append_assoc, length-append, take-append-drop, length-take}
+use Rattle.std.proofs.Common.{◌≡◌, ◌≢◌, ◌⊎◌, inl, inr, ℕ, zero, suc, ◌+◌, ◌<◌, ◌≤◌, List, [], ◌∷◌, ◌++◌, length, map, take, drop, sym, ◌∙◌, ap, subst, refl, arith, append_assoc, length-append, take-append-drop}
 use Rattle.std.specs.List.{range_with_len}
 use Rattle.std.proofs.lemmas.Bool.{cases_lt, cases_eq}
-use Rattle.std.proofs.lemmas.List.{take-append-le}
-use Rattle.uc_bytes.specs.Words.{word_sum_of}
 use Rattle.uc_bytes.specs.declared.causes.FileCause.{FileCause}
 use Rattle.uc_bytes.specs.declared.causes.FileCause.TheVariants.{Short, SizeUnaligned, TotalSmall, DataPastTotal, Version, Truncated, ExtCount, ExtSum, EntrySum, Sum, TooMany}
 use Rattle.intel_format.specs.declared.header.IntelHeader.{IntelHeader}
 use Rattle.intel_format.specs.Header.{header_of, data_len, total_len, header_triple}
 use Rattle.intel_format.specs.Update.{IsTable, IsExtTable, IsSoundHeader, entry_count, entry_sum, pair_at}
-use Rattle.intel_format.specs.Checks.{Fails, IsFirstFault, check_place, table_of, head_and_data}
+use Rattle.intel_format.specs.Checks.{Fails, IsFirstFault, check_place, table_of}
 use Rattle.intel_format.specs.File.{FileUpdate, AreUpdates, joined, IntelFile, IsFault}
-use Rattle.intel_format.proofs.Front.{header_of-append}
+use Rattle.intel_format.proofs.Begins.{update_at_front}
 use Rattle.intel_format.proofs.OneReading.{update_long}
 use Rattle.intel_format.proofs.OneFault.{Front, longest}
 use Rattle.intel_format.proofs.Checked.{PassBelow, checked, search_entries}
@@ -73,27 +71,11 @@ module _ (before : ℕ) (bytes : List ℕ) (passed : PassBelow before bytes 13) 
     | inr some ↦ (pairs, inr (is_ext_table (omega arith)))
   ]
 
-  abbrev front : List ℕ
-  front = take (total_len h) bytes
-
-  front_long : length front ≡ total_len h
-  front_long = simp length-take (omega (arith, whole))
-
-  same_header : header_of front ≡ h
-  same_header =
-      sym (header_of-append front (drop (total_len h) bytes) (omega (arith, front_long, sound.header_fits))) ∙ ap header_of (take-append-drop (total_len h) bytes)
-
-  sum : word_sum_of (take (48 + data_len h) front) ≡ 0
-  sum =
-      let same : take (48 + data_len h) front ≡ head_and_data bytes =
-      sym (take-append-le (48 + data_len h) front (drop (total_len h) bytes) (omega (arith, front_long, sound.data_fits))) ∙ ap (λ (l : List ℕ). take (48 + data_len h) l) (take-append-drop (total_len h) bytes) in
-      ap word_sum_of same ∙ same_or (λ other. passes Sum (omega arith) other)
-
   pub begins : Front bytes
   begins = record {
-    update = record { bytes = front; header = h; pairs = is_table.0 };
+    update = record { bytes = take (total_len h) bytes; header = h; pairs = is_table.0 };
     rest = drop (total_len h) bytes;
-    is = record { header = sym same_header; sound = sound; whole = front_long; sum = sum; table = is_table.1 };
+    is = update_at_front bytes is_table.0 sound whole (same_or (λ other. passes Sum (omega arith) other)) is_table.1;
     split = sym (take-append-drop (total_len h) bytes);
   }
 
@@ -167,7 +149,7 @@ walk (suc fuel) before (b ∷ bytes) short within = elim (front_or_fault before 
 ]
 
 -- the longest front that is a file ends where a check fails
-fault_of : (bytes : List ℕ) (us : List FileUpdate) (rest : List ℕ) (cause : FileCause) → bytes ≡ joined us ++ rest → AreUpdates us → length us ≤ 65536 → 0 < length rest → IsFirstFault (length us) rest cause
+pub fault_of : (bytes : List ℕ) (us : List FileUpdate) (rest : List ℕ) (cause : FileCause) → bytes ≡ joined us ++ rest → AreUpdates us → length us ≤ 65536 → 0 < length rest → IsFirstFault (length us) rest cause
     → IsFault bytes (length (joined us)) cause
 fault_of bytes us rest cause split each not_many left first = record {
   updates = us;
@@ -177,7 +159,7 @@ fault_of bytes us rest cause split each not_many left first = record {
   place = refl;
   left = left;
   longest = λ n others past within file.
-    longest us rest cause n others each first.fails past (omega (arith, ap length split)) (subst (λ (l : List ℕ). IntelFile (take n l) others) split file);
+      longest us rest cause n others each first.fails past (omega (arith, ap length split)) (subst (λ (l : List ℕ). IntelFile (take n l) others) split file);
   first = first;
 }
 
@@ -185,7 +167,10 @@ pub reading_or_fault : (bytes : List ℕ) → ((us : List FileUpdate) × IntelFi
 reading_or_fault bytes = elim (walk (length bytes) 0 bytes (omega arith) (omega arith)) [
   | inl updates ↦ inl (updates.updates, record { whole = updates.split; each = updates.each; few = omega (arith, updates.not_many) })
   | inr cut ↦
-      inr
-      (length (joined cut.updates), cut.cause, fault_of bytes cut.updates cut.rest cut.cause cut.split cut.each (omega (arith, cut.not_many)) cut.left
-        (subst (λ (n : ℕ). IsFirstFault n cut.rest cut.cause) (omega arith) cut.first))
+      inr (
+        length (joined cut.updates),
+        cut.cause,
+        fault_of bytes cut.updates cut.rest cut.cause cut.split cut.each (omega (arith, cut.not_many)) cut.left
+            (subst (λ (n : ℕ). IsFirstFault n cut.rest cut.cause) (omega arith) cut.first),
+      )
 ]

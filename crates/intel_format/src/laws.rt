@@ -6,8 +6,7 @@ ghost use Rattle.intel_format.specs.File.{FileUpdate, IntelFile, IsFault};
 /// Bytes are an Intel file in at most one way.
 pub fn one_reading()
     ensures { (bytes : List ℕ) (us vs : List FileUpdate) → IntelFile bytes us → IntelFile bytes vs → us ≡ vs }
-{
-}
+{}
 
 /// Bytes are an Intel file or have a first fault, never both, and no two faults.
 pub fn reading_or_fault()
@@ -17,5 +16,4 @@ pub fn reading_or_fault()
         → IntelFile bytes us → IsFault bytes offset cause → ⊥ }
     ensures one_fault { (bytes : List ℕ) (m n : ℕ) (c d : FileCause)
         → IsFault bytes m c → IsFault bytes n d → (m ≡ n) × (c ≡ d) }
-{
-}
+{}
