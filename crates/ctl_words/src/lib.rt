@@ -4,10 +4,12 @@
 //! operation at a time: `PlainWords` keeps them in plain lists, for a schedule that is run by one thread.
 #![tactic(auto)]
 
+mod laws;
 mod plain;
 mod plans;
 mod shared;
 
+pub use laws::tables_end;
 pub use plain::PlainWords;
 pub use plans::Plan;
 pub use rendezvous::{Kind, Op, Word};
