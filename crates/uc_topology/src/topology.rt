@@ -38,7 +38,7 @@ impl Topology {
     ghost use Rattle.uc_topology.specs.Stated.{Machine, IsPartition, core_at, group_of, group_count, group_facts, thread_groups, primary};
 
     /// The topology of whole tables; nothing where a core has no thread, or there is no thread.
-    pub fn of_tables(vendor: Vendor, tables: Tables) -> Option<Topology>
+    pub(crate) fn of_tables(vendor: Vendor, tables: Tables) -> Option<Topology>
         ensures { MatchOption result (is_full tables ≡ false) (λ topology. (is_full tables ≡ true) × (topology ≡ record { vendor = vendor; stated = tables })) }
     {
         let leads = first_places(tables.cores().len() as u16, tables.threads());
