@@ -77,9 +77,9 @@ fn r(thread: u16) -> Beat {
     Beat::One(Event::Run(thread))
 }
 
-/// Runs the schedule, and compares its items with those that are wanted.
+/// Runs the schedule, prints its items, and compares them with those that are wanted.
 fn expect(
-    rt: &impl Abort,
+    rt: &(impl Abort + Print),
     alloc: Global,
     kinds: &[Kind],
     words: &[Beat],
@@ -93,6 +93,7 @@ fn expect(
     let items = run(alloc, &plan, schedule)?;
     assert_eq!(rt; items.len(), wanted.len());
     for (item, (thread, what)) in items.iter().zip(wanted) {
+        println!(rt; "{} {:?}", item.thread, item.what)?;
         assert_eq!(rt; item.thread, *thread);
         assert_eq!(rt; item.what, *what);
     }
