@@ -88,3 +88,7 @@ update_line number start h date =
     joined
     (decimal number ∷ codes " at " ∷ decimal start ∷ codes " len " ∷ decimal (total_len h) ∷ codes " rev " ∷ hex8_of h.rev ∷ codes " date " ∷ date
     ∷ codes " sig " ∷ hex8_of h.sig ∷ codes " flags " ∷ hex8_of h.flags ∷ min_text h.min ∷ codes "\n" ∷ [])
+
+-- a signature and the processor flags that go with it, of an update's table
+unfoldable pub pair_line : ℕ × ℕ → List ℕ
+pair_line pair = joined (codes "  pair " ∷ hex8_of pair.0 ∷ codes " " ∷ hex8_of pair.1 ∷ codes "\n" ∷ [])

@@ -1,1 +1,3 @@
+mod Placed
 mod Refusals
+mod Texts

@@ -1,9 +1,10 @@
--- What a run wrote that ended with a refusal.
-use Rattle.std.proofs.Common.{ℕ, List, Some, None, Err, IsSome, refl}
+-- What a run wrote, and why it ended.
+use Rattle.std.proofs.Common.{inl, inr, ℕ, List, Some, None, Err, IsSome, refl, sym, subst}
 use Rattle.std.proofs.lemmas.Bool.{false≢true}
 use Rattle.uc_io.specs.Faults.{Rose}
 use Rattle.top_call.specs.declared.status.Status.{Status}
 use Rattle.top_call.specs.declared.status.Status.TheVariants as statuses
+use Rattle.top_call.specs.Causes.{WriteCause}
 use Rattle.top_call.specs.Written.{Written, Ends}
 use Rattle.top_call.proofs.Endings.{Written-ends, Written-memory, StartsText-nothing}
 use Rattle.tool_text.specs.Listing.{ListText}
@@ -15,6 +16,13 @@ use Rattle.uc_cli.specs.declared.refusal.Refusal.TheVariants.{ReadFault, File, N
 
 pub no_file : {P : Type 0} → IsSome {T = ℕ} None → P
 no_file some = absurd (false≢true some)
+
+-- a run whose last lines were to be written with Done, and a write fault of which has its cause
+pub done_cause : {D : Type 0} (stands : D → List ℕ → Type 0) (faults : D → ℕ) (old new : D) (text : List ℕ) (status : Status) → Ends stands faults old new text statuses.Done status → WriteCause (faults old) (faults new) status
+done_cause stands faults old new text status ends = elim ends.outcome [
+  | inl whole ↦ subst (WriteCause (faults old) (faults new)) (sym whole.0) tt
+  | inr cut ↦ subst (WriteCause (faults old) (faults new)) (sym cut.0) cut.2
+]
 
 pub refusal_written : {D tells : Type 0} (stands : D → List ℕ → Type 0) (faults : D → ℕ) (old new : D) (name held : List ℕ) (before now : ℕ) (refusal : Refusal) (status : Status)
     → tells → IsFileRead tells held before now (Err refusal) → Ends stands faults old new (line_of name refusal) (status_of refusal) status → Written (ListText name held) (Rose before now) stands old new status

@@ -7,6 +7,7 @@ mod list;
 mod reading;
 mod refusal;
 mod tool;
+mod update_file;
 mod words;
 
 pub use tool::run_tool;

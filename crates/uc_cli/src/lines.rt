@@ -1,9 +1,8 @@
 //! The lines that are printed, each composed in one piece.
-ghost use Rattle.std.specs.Prelude.{◌≡◌, ◌≤◌, codes, length};
+ghost use Rattle.std.specs.Prelude.{◌≡◌, ℕ, ◌≤◌, List, codes, length};
 ghost use Rattle.uc_io.specs.Writing.{Writes};
-ghost use Rattle.tool_text.specs.Lines.{usage_line, unread_line, fault_line, file_line, update_line, cause_text, digit_pair, day_text, min_text, IsDateText};
+ghost use Rattle.tool_text.specs.Lines.{usage_line, unread_line, fault_line, file_line, update_line, pair_line, cause_text, digit_pair, day_text, min_text, IsDateText};
 ghost use Rattle.uc_cli.specs.Names.{cause_name};
-ghost use Rattle.uc_cli.specs.Listing.{PutsUpdate};
 ghost use Rattle.top_call.specs.Written.{memory_line};
 
 use arrayvec::ArrayVec;
@@ -182,7 +181,7 @@ pub fn put_update<S: Sink>(
     start: u64,
     header: &IntelHeader,
 ) -> Result<(), SinkFailed>
-    ensures { PutsUpdate S.stands S.faults out.old out.new number start header.now result }
+    ensures { (date : List ℕ) → IsDateText header.now.date date → Writes S.stands S.faults out.old out.new (update_line number start header.now date) result }
 {
     let number = dec(u64::from(number));
     let start = dec(start);
@@ -212,4 +211,14 @@ pub fn put_update<S: Sink>(
             b"\n",
         ],
     )
+}
+
+/// The line of a pair in an update's table: `  pair HEX HEX`, a signature and the processor flags that go with it.
+#[tactic(auto, unfolding(tool_text::specs::Lines::pair_line))]
+pub fn put_pair<S: Sink>(out: &mut S, sig: u32, flags: u32) -> Result<(), SinkFailed>
+    ensures { Writes S.stands S.faults out.old out.new (pair_line (sig, flags)) result }
+{
+    let sig = hex8(sig);
+    let flags = hex8(flags);
+    write_line(out, &[b"  pair ", &sig, b" ", &flags, b"\n"])
 }
