@@ -114,8 +114,8 @@ fn read_file<R: host::Files>(
     read_whole(&mut file, alloc, limit, expected.min(limit) as usize)
 }
 
-/// Reads to the end, or until more than `limit` bytes were taken. It makes room for the `expected` bytes at once, so
-/// that a file of that length is never moved.
+/// Reads to the end, or until more than `limit` bytes were taken, of which no more than `limit` are kept. It makes room
+/// for the `expected` bytes at once, so that a file of that length is never moved.
 fn read_whole<F: Read>(
     file: &mut F,
     alloc: Global,
@@ -132,11 +132,11 @@ fn read_whole<F: Read>(
         if taken == 0 {
             return Ok(bytes);
         }
-        bytes.extend_from_slice(&piece[..taken])?;
-        let length = bytes.len() as u64;
+        let length = (bytes.len() + taken) as u64;
         if length > limit {
             return Err(ReadAnswer::TooLong(length));
         }
+        bytes.extend_from_slice(&piece[..taken])?;
     }
     Err(ReadAnswer::Failed)
 }
