@@ -1,0 +1,116 @@
+#!/usr/bin/env python3
+"""Measures a built `ucode`, and prints one table. README.md beside it says what is measured and how to run it."""
+import itertools
+import os
+import socket
+import struct
+import subprocess
+import sys
+import tempfile
+import time
+
+RUNS = 15
+MIB = 2**20
+HEADER = struct.Struct("<12I")
+
+
+def make_file(name, count, total):
+    """Writes a file of `count` updates of `total` bytes each, and returns the text that lists it."""
+    size = total - HEADER.size
+    numbers = range(1, size // 4 + 1)
+    data, data_sum = struct.pack(f"<{len(numbers)}I", *numbers), sum(numbers)
+    text = [f"file 0 {name} intel {count}\n"]
+    with open(name, "wb") as file:
+        for k in range(count):
+            words = [1, k + 1, 0x07112023, 0x000906EA, 0, 1, 2, size, total, 0, 0, 0]
+            words[4] = -(sum(words) + data_sum) % 2**32
+            file.write(HEADER.pack(*words) + data)
+            text.append(f"{k} at {k * total} len {total} rev 0x{k + 1:08x} "
+                        "date 2023-07-11 sig 0x000906ea flags 0x00000002\n")
+    return "".join(text).encode()
+
+
+def start(command, stdout):
+    return os.posix_spawn(command[0], command, os.environ, file_actions=[(os.POSIX_SPAWN_DUP2, stdout, 1)])
+
+
+def writes_of(command):
+    """Returns what each write of a command took: on this kind of socket a write is a packet of its own."""
+    ours, theirs = socket.socketpair(socket.AF_UNIX, socket.SOCK_SEQPACKET)
+    child = start(command, theirs.fileno())
+    theirs.close()
+    pieces = list(iter(lambda: ours.recv(MIB), b""))
+    os.waitpid(child, 0)
+    return pieces
+
+
+def expect(command, printed, wanted):
+    """Ends the script where a command printed another text than is wanted."""
+    lines = itertools.zip_longest(printed.split(b"\n"), wanted.split(b"\n"), fillvalue=b"(the end)")
+    for number, (line, want) in enumerate(lines, 1):
+        if line != want:
+            sys.exit(f"{' '.join(command)}\nline {number} is   {line.decode(errors='replace')}\n"
+                     f"and should be  {want.decode()}\nso nothing is measured.")
+
+
+def run(command):
+    """Runs a command to its end, and returns its time in seconds and its peak resident memory in bytes. The latter counts
+    from this script's own, since a child begins as its parent; so the script never holds a large file."""
+    with open(os.devnull, "wb") as nowhere:
+        begin = time.perf_counter()
+        _, status, usage = os.wait4(start(command, nowhere.fileno()), 0)
+        taken = time.perf_counter() - begin
+    if status != 0:
+        sys.exit(f"{' '.join(command)}\nended with status {os.waitstatus_to_exitcode(status)}, so nothing is measured.")
+    return taken, usage.ru_maxrss * 1024
+
+
+def time_ratio(command, to):
+    """Returns how many times as long as `to` a command takes, by the least times of runs that alternate."""
+    times = [(run(command)[0], run(to)[0]) for _ in range(RUNS)]
+    return min(a for a, b in times) / min(b for a, b in times)
+
+
+def measure(ucode, source):
+    """Returns the rows of the table. It works in the current folder."""
+    reader = [os.path.abspath("read_and_sum"), "large.bin"]
+    subprocess.run(["gcc", "-O2", "-o", reader[0], source], check=True)
+    large, whole, half = ([ucode, "list", name] for name in ("large.bin", "whole.bin", "half.bin"))
+
+    text = make_file("large.bin", 4096, 16384)
+    expect(large, b"".join(writes_of(large)), text)
+    expect(reader, b"".join(writes_of(reader)), b"0x00000000\n")
+    to_reader = time_ratio(large, reader)
+    above = (run(large)[1] - os.path.getsize("large.bin")) / MIB
+
+    text = make_file("whole.bin", 65536, 64)
+    writes, lines = writes_of(whole), text.count(b"\n")
+    expect(whole, b"".join(writes), text)
+    text = make_file("half.bin", 32768, 64)
+    expect(half, b"".join(writes_of(half)), text)
+    to_half = time_ratio(whole, half)
+
+    return [
+        ("64 MiB in 4,096 updates: time, to the plain reader's", f"{to_reader:.2f}", "at most 1.3"),
+        ("64 MiB in 4,096 updates: peak memory", f"the file's size and {above:.1f} MiB", "the file's size and at most 32 MiB"),
+        ("4 MiB in 65,536 updates: writes, to lines", f"{len(writes):,} to {lines:,}", "65,537 to 65,537"),
+        ("4 MiB in 65,536 updates: time, to that of 32,768", f"{to_half:.2f}", "about 2"),
+    ]
+
+
+def main():
+    if len(sys.argv) != 2 or not os.access(sys.argv[1], os.X_OK):
+        sys.exit("usage: run.py PATH, the path of the built ucode")
+    ucode = os.path.abspath(sys.argv[1])
+    source = os.path.join(os.path.dirname(os.path.abspath(__file__)), "read_and_sum.c")
+    with tempfile.TemporaryDirectory() as folder:
+        os.chdir(folder)
+        rows = measure(ucode, source)
+        os.chdir("/")
+    print(f"| `ucode list`, on {os.cpu_count()} cores | Measured | Target |\n|---|---|---|")
+    for row in rows:
+        print(f"| {' | '.join(row)} |")
+
+
+if __name__ == "__main__":
+    main()
