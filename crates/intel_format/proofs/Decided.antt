@@ -1,14 +1,9 @@
--- Each list of bytes is an update without a table or is none, and each date names a day or names none.
-use Rattle.std.proofs.Common.{◌≡◌, ◌⊎◌, inl, inr, ℕ, ◌+◌, ◌≤◌, List, take, refl, arith, Bool, true, false, ℤ, ◌≤ℤ◌}
-use Rattle.std.proofs.lemmas.Bool.{cases_lt, cases_eq}
+-- Each date names a day or names none.
+use Rattle.std.proofs.Common.{◌⊎◌, inl, inr, ℕ, ◌≤◌, arith, Bool, true, false, ℤ, ◌≤ℤ◌}
+use Rattle.std.proofs.lemmas.Bool.{cases_lt}
 use Rattle.std.proofs.Math.Dec.{T}
 use Rattle.std.specs.Int.Signed.{le_z}
-use Rattle.std.proofs.lemmas.List.{drop_all}
-use Rattle.uc_bytes.specs.Words.{word_sum_of}
 use Rattle.jiff_core.specs.Calendar.{IsDate, IsBetween}
-use Rattle.intel_format.specs.declared.header.IntelHeader.{IntelHeader}
-use Rattle.intel_format.specs.Header.{header_of, data_len}
-use Rattle.intel_format.specs.Update.{IsSoundHeader, IsPlainUpdate}
 use Rattle.intel_format.specs.Date.{NamesDay, AreDigits, month_byte, day_byte, century_byte, year_byte}
 
 -- a fact holds or does not
@@ -57,31 +52,3 @@ decided_day date =
     (λ (names : NamesDay date). (names.month, names.day, (names.century, names.year, names.in_calendar)))
     (three (decided_digits (month_byte date)) (decided_digits (day_byte date))
     (three (decided_digits (century_byte date)) (decided_digits (year_byte date)) (decided_date _ _ _)))
-
-decided_equal : (a b : ℕ) → Decided (a ≡ b)
-decided_equal a b = cases_eq a b
-
-decided_sound : (h : IntelHeader) → Decided (IsSoundHeader h)
-decided_sound h =
-    same
-    (λ (even, fits, ones). record { data_even = even.0; total_even = even.1; header_fits = fits.0; data_fits = fits.1; version = ones.0; loader = ones.1 })
-    (λ (sound : IsSoundHeader h). ((sound.data_even, sound.total_even), (sound.header_fits, sound.data_fits), (sound.version, sound.loader)))
-    (three (both (decided_equal _ _) (decided_equal _ _)) (both (decided_le _ _) (decided_le _ _)) (both (decided_equal _ _) (decided_equal _ _)))
-
--- bytes are an update without a table or are none
-pub decided_plain : (bytes : List ℕ) → Decided (IsPlainUpdate bytes (header_of bytes))
-decided_plain bytes =
-    let h = header_of bytes in
-    same
-    (λ (sound, lengths, sum). record {
-      update = record {
-        header = refl;
-        sound = sound;
-        whole = lengths.0;
-        sum = sum;
-        table = inl (drop_all (48 + data_len h) bytes (omega (arith, lengths.1)), refl);
-      };
-      no_table = lengths.1;
-    })
-    (λ (plain : IsPlainUpdate bytes h). (plain.update.sound, (plain.update.whole, plain.no_table), plain.update.sum))
-    (three (decided_sound h) (both (decided_equal _ _) (decided_equal _ _)) (decided_equal (word_sum_of (take (48 + data_len h) bytes)) 0))

@@ -1,18 +1,9 @@
 -- What stands at the front of bytes does not depend on what follows it.
-use Rattle.std.proofs.Common.{◌≡◌, ℕ, ◌+◌, ◌≤◌, List, ◌++◌, length, drop, ◌∙◌, ap, arith, length-drop}
-use Rattle.std.proofs.lemmas.List.{drop-append-le}
-use Rattle.byteorder.specs.Endian.{little_number}
-use Rattle.byteorder.specs.Numbers.{little_from-append}
-use Rattle.uc_bytes.specs.Words.{word}
+use Rattle.std.proofs.Common.{◌≡◌, ℕ, ◌≤◌, List, ◌++◌, length, arith}
+use Rattle.uc_bytes.proofs.Fronts.{word-append}
 use Rattle.intel_format.specs.Header.{header_of}
 
--- a word is read from its four bytes
-pub word-append : (xs ys : List ℕ) (at : ℕ) → at + 4 ≤ length xs → word (xs ++ ys) at ≡ word xs at
-unfolding word
-word-append xs ys at inside =
-    ap (little_number 4) (drop-append-le at xs ys (omega arith)) ∙ little_from-append 4 (drop at xs) ys (omega (arith, length-drop at xs))
-
--- and a header from its 48
+-- a header is read from its 48 bytes
 pub header_of-append : (xs ys : List ℕ) → 48 ≤ length xs → header_of (xs ++ ys) ≡ header_of xs
 header_of-append xs ys inside = λ i. record {
   version = word-append xs ys 0 (omega arith) i;

@@ -46,8 +46,3 @@ pub record IntelUpdate (bytes : List ℕ) (h : IntelHeader) (pairs : List (ℕ �
   pub whole : length bytes ≡ total_len h
   pub sum : word_sum_of (take (48 + data_len h) bytes) ≡ 0
   pub table : IsTable (header_triple h) (drop (48 + data_len h) bytes) pairs
-
--- the bytes are an update without an extended signature table
-pub record IsPlainUpdate (bytes : List ℕ) (h : IntelHeader) : Type 0 where
-  pub update : IntelUpdate bytes h []
-  pub no_table : length bytes ≡ 48 + data_len h
