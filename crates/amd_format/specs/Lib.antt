@@ -1,0 +1,4 @@
+pub mod Checks
+pub mod Equiv
+pub mod File
+pub mod Patch
