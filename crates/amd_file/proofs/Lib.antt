@@ -1,0 +1,3 @@
+mod Listed
+mod Sections
+mod Walks

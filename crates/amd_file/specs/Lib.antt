@@ -1,0 +1,4 @@
+pub mod Piece
+pub mod Reading
+pub mod Section
+pub mod Walk

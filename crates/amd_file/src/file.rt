@@ -1,0 +1,21 @@
+ghost use Rattle.std.specs.Prelude.{◌≤◌, length};
+ghost use Rattle.amd_file.specs.Reading.{IsFileRead};
+
+use crate::container::AmdContainer;
+use crate::walk::Walk;
+use std::alloc::Global;
+use uc_bytes::FileAnswer;
+
+/// The containers of a file, or the first fault: where the container begins whose head or table fails a check, or the
+/// section that fails one, and the first check that it fails. The file has at most 67,108,864 bytes. Linux 6.7,
+/// `arch/x86/kernel/cpu/microcode/amd.c`, load_microcode_amd.
+pub fn read_amd(alloc: Global, bytes: &[u8]) -> Result<Vec<AmdContainer>, FileAnswer>
+    requires { length bytes.now ≤ 67108864 }
+    ensures { IsFileRead bytes.now result }
+{
+    let mut walk = Walk::new(alloc);
+    'walk: while walk.containers.is_empty() || walk.at < bytes.len() {
+        walk.step(alloc, bytes)?;
+    }
+    Ok(walk.containers)
+}
