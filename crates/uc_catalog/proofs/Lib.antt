@@ -1,0 +1,6 @@
+mod Added
+mod Many
+mod Patches
+mod Served
+mod Tables
+mod Updates

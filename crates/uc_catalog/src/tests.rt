@@ -1,0 +1,233 @@
+use super::*;
+use std::alloc::{AllocError, Global};
+use std::test::Fail;
+use uc_bytes::{FileAnswer, FileCause, FileFault, Vendor};
+
+/// An update of 64 bytes for signature 0x906ea and flags 2, of 2023-07-11, with data of zeros.
+fn push_update(bytes: &mut Vec<u8>, rev: u32, cksum: u32, total: u32) -> Result<(), AllocError> {
+    let words = [
+        1,
+        rev,
+        0x0711_2023,
+        0x0009_06ea,
+        cksum,
+        1,
+        2,
+        16,
+        total,
+        0,
+        0,
+        0,
+        0,
+        0,
+        0,
+        0,
+    ];
+    for word in &words {
+        bytes.extend_from_slice(&word.to_le_bytes())?;
+    }
+    Ok(())
+}
+
+/// An update whose table has the pairs (0x906eb, 2) and (0x906ec, 0x22).
+fn with_table(alloc: Global) -> Result<Vec<u8>, AllocError> {
+    let mut bytes = Vec::new(alloc);
+    push_update(&mut bytes, 0xf0, 0xf8e5_d783, 108)?;
+    let words = [
+        2,
+        0x0e22_4320u32,
+        0,
+        0,
+        0,
+        0x0009_06eb,
+        2,
+        0xf8e5_d782,
+        0x0009_06ec,
+        0x22,
+        0xf8e5_d761,
+    ];
+    for word in &words {
+        bytes.extend_from_slice(&word.to_le_bytes())?;
+    }
+    Ok(bytes)
+}
+
+/// Adds a file; every file here is short enough, and there are few.
+fn add(catalog: &mut Catalog, bytes: Vec<u8>) -> Result<(), FileAnswer> {
+    if catalog.files() >= 16 || bytes.len() > 67_108_864 {
+        return Err(FileAnswer::NoMemory);
+    }
+    catalog.add(bytes)
+}
+
+/// The pairs of an entry that has three.
+fn three_pairs(catalog: &Catalog, i: u32) -> Option<[(u32, u32); 3]> {
+    if i >= catalog.len() || catalog.pairs(i) != 3 {
+        return None;
+    }
+    Some([catalog.pair(i, 0), catalog.pair(i, 1), catalog.pair(i, 2)])
+}
+
+/// The facts of an entry, where it is there.
+fn entry(catalog: &Catalog, i: u32) -> Option<EntryFacts> {
+    if i < catalog.len() {
+        Some(catalog.entry(i))
+    } else {
+        None
+    }
+}
+
+#[test]
+fn tells_the_pairs_of_a_table_behind_the_headers(rt: HostRuntime) -> Result<(), Fail> {
+    let mut catalog = Catalog::new(rt.alloc());
+    assert_eq!(rt; catalog.len(), 0);
+    let bytes = with_table(rt.alloc())?;
+    assert_eq!(rt; add(&mut catalog, bytes), Ok(()));
+    let pairs = [(0x0009_06ea, 2), (0x0009_06eb, 2), (0x0009_06ec, 0x22)];
+    assert_eq!(rt; three_pairs(&catalog, 0), Some(pairs));
+    let facts = EntryFacts {
+        file: 0,
+        start: 0,
+        len: 108,
+        vendor: Vendor::Intel,
+        rev: 0xf0,
+        date: 0x0711_2023,
+        min: 0,
+        sig: 0x0009_06ea,
+        flags: 2,
+        id: 0,
+        family: 0,
+    };
+    assert_eq!(rt; entry(&catalog, 0), Some(facts));
+    Ok(())
+}
+
+#[test]
+fn a_refused_file_leaves_the_catalogue_as_it_was(rt: HostRuntime) -> Result<(), Fail> {
+    let alloc = rt.alloc();
+    let mut catalog = Catalog::new(alloc);
+    let mut first = Vec::new(alloc);
+    push_update(&mut first, 0xf0, 0xf8e5_d7af, 64)?;
+    assert_eq!(rt; add(&mut catalog, first), Ok(()));
+    let mut second = Vec::new(alloc);
+    push_update(&mut second, 0xf0, 0xf8e5_d7af, 64)?;
+    push_update(&mut second, 0xf4, 0xf8e5_d7aa, 64)?;
+    let sum = FileFault {
+        offset: 64,
+        cause: FileCause::Sum,
+    };
+    assert_eq!(rt; add(&mut catalog, second), Err(FileAnswer::Fault(sum)));
+    assert_eq!(rt; (catalog.files(), catalog.len()), (1, 1));
+    let mut third = Vec::new(alloc);
+    push_update(&mut third, 0xf4, 0xf8e5_d7ab, 64)?;
+    let copy = Vec::from_slice(alloc, third.as_slice())?;
+    assert_eq!(rt; add(&mut catalog, third), Ok(()));
+    assert_eq!(rt; (catalog.files(), catalog.len()), (2, 2));
+    assert_eq!(rt;
+        entry(&catalog, 1).map(|facts| (facts.file, facts.rev)),
+        Some((1, 0xf4))
+    );
+    if catalog.len() == 2 {
+        assert_eq!(rt; catalog.bytes_of(1), copy.as_slice());
+    }
+    Ok(())
+}
+
+#[test]
+fn an_empty_file_has_a_vendor_and_no_entry(rt: HostRuntime) -> Result<(), Fail> {
+    let mut catalog = Catalog::new(rt.alloc());
+    assert_eq!(rt; add(&mut catalog, Vec::new(rt.alloc())), Ok(()));
+    assert_eq!(rt; (catalog.files(), catalog.len()), (1, 0));
+    if catalog.files() == 1 {
+        assert_eq!(rt; catalog.vendor_of(0), Vendor::Intel);
+    }
+    Ok(())
+}
+
+/// A container of 116 bytes: a table of one row and a zero row, and a patch of 64 bytes with id 0xa210.
+fn push_container(bytes: &mut Vec<u8>, sig: u32, rev: u32) -> Result<(), AllocError> {
+    let words = [
+        0x0041_4d44u32,
+        0,
+        32,
+        sig,
+        0,
+        0,
+        0xa210,
+        0,
+        0,
+        0,
+        0,
+        1,
+        64,
+        0,
+        rev,
+        0,
+        0,
+        0,
+        0,
+        0xa210,
+        0,
+        0,
+        0,
+        0,
+        0,
+        0,
+        0,
+        0,
+        0,
+    ];
+    for word in &words {
+        bytes.extend_from_slice(&word.to_le_bytes())?;
+    }
+    Ok(())
+}
+
+/// The id that an entry's container gives for a signature, and the first two signatures that the entry is for.
+fn by_table(catalog: &Catalog, i: u32, sig: u32) -> Option<(u16, Option<u32>, Option<u32>)> {
+    if i < catalog.len() {
+        Some((
+            catalog.id_for(i, sig),
+            catalog.served(i, 0),
+            catalog.served(i, 1),
+        ))
+    } else {
+        None
+    }
+}
+
+#[test]
+fn each_patch_goes_by_its_own_containers_table(rt: HostRuntime) -> Result<(), Fail> {
+    let alloc = rt.alloc();
+    let mut catalog = Catalog::new(alloc);
+    let mut bytes = Vec::new(alloc);
+    push_container(&mut bytes, 0x00a2_0f10, 0x0a20_102b)?;
+    push_container(&mut bytes, 0x00a2_0f12, 0x0a20_1210)?;
+    assert_eq!(rt; add(&mut catalog, bytes), Ok(()));
+    assert_eq!(rt; catalog.len(), 2);
+    let second = EntryFacts {
+        file: 0,
+        start: 168,
+        len: 64,
+        vendor: Vendor::Amd,
+        rev: 0x0a20_1210,
+        date: 0,
+        min: 0,
+        sig: 0,
+        flags: 0,
+        id: 0xa210,
+        family: 0x19,
+    };
+    assert_eq!(rt; entry(&catalog, 1), Some(second));
+    let (first, other) = (0x00a2_0f10, 0x00a2_0f12);
+    assert_eq!(rt;
+        by_table(&catalog, 0, first),
+        Some((0xa210, Some(first), None))
+    );
+    assert_eq!(rt; by_table(&catalog, 0, other), Some((0, Some(first), None)));
+    assert_eq!(rt;
+        by_table(&catalog, 1, other),
+        Some((0xa210, Some(other), None))
+    );
+    Ok(())
+}
