@@ -1,0 +1,65 @@
+//! The entry that a core is offered.
+ghost use Rattle.std.specs.Prelude.{◌<◌, ◌≤◌, ◌↔◌, IsTrue, length};
+ghost use Rattle.file_entries.specs.Selection.{Admissible, IsOffer};
+ghost use Rattle.uc_catalog.specs.Contents.{entry_at};
+ghost use Rattle.uc_select.specs.Offers.{IsOfferAt, AreOffers};
+
+use crate::fit::{fits, is_safe};
+use arrayvec::ArrayVec;
+use file_entries::CoreFacts;
+use uc_catalog::Catalog;
+
+/// Whether an entry of a revision above the core's is admissible.
+fn is_admissible(catalog: &Catalog, i: u32, core: &CoreFacts, force: bool) -> bool
+    requires entry { i < length catalog.now.entries }
+    requires above { core.now.rev < (entry_at catalog.now i).facts.rev }
+    ensures { IsTrue result ↔ Admissible (entry_at catalog.now i) core.now force }
+{
+    if force && !is_safe(catalog, i, core.rev) {
+        return false;
+    }
+    fits(catalog, i, core)
+}
+
+/// The number of the entry that a core is offered: the first of the greatest revision among those that fit it and whose
+/// revision is above its own, and with `force` are safe at its own; none where there is no such entry.
+pub fn offer(catalog: &Catalog, core: &CoreFacts, force: bool) -> Option<u32>
+    ensures { IsOffer catalog.now.entries core.now force result }
+{
+    let mut best = None;
+    let mut best_rev = core.rev;
+    for i in 0..catalog.len() {
+        let rev = catalog.entry(i).rev;
+        if rev > best_rev && is_admissible(catalog, i, core, force) {
+            best = Some(i);
+            best_rev = rev;
+        }
+    }
+    best
+}
+
+/// The offer of a core, where there is one.
+fn offer_at(catalog: &Catalog, core: &Option<CoreFacts>, force: bool) -> Option<u32>
+    ensures { IsOfferAt catalog.now.entries core.now force result }
+{
+    match core {
+        Some(core) => offer(catalog, core, force),
+        None => None,
+    }
+}
+
+/// The offers of at most 256 cores, place by place; none where there is no core.
+pub fn offers(
+    catalog: &Catalog,
+    cores: &[Option<CoreFacts>],
+    force: bool,
+) -> ArrayVec<Option<u32>, 256>
+    requires { length cores.now ≤ 256 }
+    ensures { AreOffers catalog.now.entries cores.now force result.items }
+{
+    let mut offers = ArrayVec::new();
+    for core in cores {
+        offers.push(offer_at(catalog, core, force));
+    }
+    offers
+}

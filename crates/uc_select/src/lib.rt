@@ -1,0 +1,14 @@
+//! Which entry of a catalogue a core is offered: the first of the greatest revision among those that fit the core and are
+//! above the revision that it runs. `file_entries` says what that is; here the catalogue is searched, in one pass over
+//! its entries for each core. Nothing here takes memory.
+#![tactic(auto)]
+
+mod choice;
+mod fit;
+
+pub use choice::{offer, offers};
+pub use file_entries::CoreFacts;
+pub use fit::{fits, is_safe};
+
+#[cfg(test)]
+mod tests;
