@@ -1,4 +1,4 @@
 mod Body
 mod Fields
 mod Kept
-mod Laws
+pub mod Laws

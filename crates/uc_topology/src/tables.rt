@@ -1,4 +1,4 @@
-ghost use Rattle.std.specs.Prelude.{◌≡◌, ◌<◌, ◌≤◌, ℕ, List, [], length, map, slice_index, MatchResult, Ok, Err};
+ghost use Rattle.std.specs.Prelude.{◌≡◌, ◌<◌, ◌≤◌, ℕ, List, [], length, map, slice_index, All, MatchResult, Ok, Err};
 ghost use Rattle.std.specs.List.{range_with_len};
 ghost use Rattle.uc_topology.specs.Grammar.{same_facts};
 
@@ -124,12 +124,14 @@ impl Tables {
     pub fn cores(&self) -> &[Core]
         ensures value { result.now ≡ self.now.cores }
         ensures size { length self.now.cores ≤ 256 }
+        ensures in_groups { All (λ core. core.group < group_count self.now.cores) self.now.cores }
     {
         &self.cores
     }
 
     pub fn groups(&self) -> u16
-        ensures { result ≡ group_count self.now.cores }
+        ensures value { result ≡ group_count self.now.cores }
+        ensures few { group_count self.now.cores ≤ 256 }
     {
         self.firsts.len() as u16
     }

@@ -69,7 +69,8 @@ impl Topology {
     }
 
     pub fn groups(&self) -> u16
-        ensures { result ≡ group_count self.now.stated.cores }
+        ensures value { result ≡ group_count self.now.stated.cores }
+        ensures few { group_count self.now.stated.cores ≤ 256 }
     {
         self.tables.groups()
     }
@@ -98,7 +99,8 @@ impl Topology {
 
     pub fn group_of_core(&self, core: u16) -> u16
         requires { core < length self.now.stated.cores }
-        ensures { result ≡ group_of (core_at self.now.stated.cores core) }
+        ensures value { result ≡ group_of (core_at self.now.stated.cores core) }
+        ensures within { result < group_count self.now.stated.cores }
     {
         self.tables.cores()[core as usize].group
     }
