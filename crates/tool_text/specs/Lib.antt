@@ -1,4 +1,4 @@
-pub mod Lines
-pub mod Listing
+pub mod Commands
+pub mod Reads
 pub mod Tool
 pub mod Words

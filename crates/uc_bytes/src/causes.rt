@@ -78,8 +78,6 @@ pub enum FileCause {
     TooMany,
     /// More than 67,108,864 bytes.
     TooLong,
-    /// A file that is not read yet.
-    Later,
 }
 
 /// Where a file goes wrong, in bytes from its begin, and why.

@@ -1,3 +1,4 @@
-mod Placed
-mod Refusals
-mod Texts
+mod Endings
+mod Files
+mod Groups
+mod Names

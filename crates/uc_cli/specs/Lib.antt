@@ -1,4 +1,4 @@
-pub mod Names
 pub mod Reading
 pub mod Refusal
-pub mod Updates
+pub mod Selecting
+pub mod Words

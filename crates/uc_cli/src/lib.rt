@@ -2,12 +2,12 @@
 //! sink.
 #![tactic(auto)]
 
-mod lines;
 mod list;
 mod reading;
 mod refusal;
+mod select;
+mod show;
 mod tool;
-mod update_file;
 mod words;
 
 pub use tool::run_tool;

@@ -1,29 +1,47 @@
+//! Why a command writes nothing but a line that says so.
 ghost use Rattle.std.specs.Prelude.{◌≡◌};
-ghost use Rattle.top_call.specs.Written.{Ends};
+ghost use Rattle.uc_io.specs.Writing.{Writes};
+ghost use Rattle.top_call.specs.Written.{Ends, memory_line};
 ghost use Rattle.uc_cli.specs.Refusal.{line_of, status_of};
 
-use crate::lines::{put_fault, put_memory, put_unread};
 use top_call::{Status, after_write};
 use uc_bytes::{FileFault, Text};
-use uc_io::Sink;
+use uc_io::{Sink, SinkFailed, write_line};
+use uc_report::{put_fault, put_no_entry, put_topology_fault, put_unread};
+use uc_topology::TopoFault;
 
 /// Why a command writes nothing but a line that says so.
-#[derive(Clone, Copy, Debug, PartialEq, Eq)]
-pub enum Refusal {
-    /// The file was not read.
-    ReadFault,
-    /// The file has no reading, or is longer than allowed.
-    File(FileFault),
+#[derive(Clone, Copy, Debug)]
+pub enum Refusal<'a> {
+    /// The file of this name was not read.
+    Unread(&'a Text),
+    /// The update file of this name has no reading, or is longer than allowed.
+    BadFile(&'a Text, FileFault),
+    /// The topology states nothing, or is longer than allowed.
+    BadTopology(TopoFault),
+    /// No entry has this number.
+    NoEntry(u64),
     NoMemory,
 }
 
-/// Writes the line on a refusal at the file of a name.
-pub fn refuse<S: Sink>(out: &mut S, name: &Text, refusal: Refusal) -> Status
-    ensures { Ends S.stands S.faults out.old out.new (line_of name.now refusal) (status_of refusal) result }
+/// `error memory`.
+fn put_memory<S: Sink>(out: &mut S) -> Result<(), SinkFailed>
+    ensures { Writes S.stands S.faults out.old out.new memory_line result }
+{
+    write_line(out, &[b"error memory\n"])
+}
+
+/// Writes the line on a refusal.
+pub fn refuse<S: Sink>(out: &mut S, refusal: Refusal<'_>) -> Status
+    ensures { Ends S.stands S.faults out.old out.new (line_of refusal.entry) (status_of refusal.entry) result }
 {
     match refusal {
-        Refusal::ReadFault => after_write(Status::ReadFault, put_unread(out, name)),
-        Refusal::File(fault) => after_write(Status::BadInput, put_fault(out, name, fault)),
+        Refusal::Unread(name) => after_write(Status::ReadFault, put_unread(out, name)),
+        Refusal::BadFile(name, fault) => after_write(Status::BadInput, put_fault(out, name, fault)),
+        Refusal::BadTopology(fault) => {
+            after_write(Status::BadInput, put_topology_fault(out, fault))
+        }
+        Refusal::NoEntry(number) => after_write(Status::BadInput, put_no_entry(out, number)),
         Refusal::NoMemory => after_write(Status::NoMemory, put_memory(out)),
     }
 }

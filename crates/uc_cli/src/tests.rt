@@ -1,10 +1,12 @@
-ghost use Rattle.std.specs.Prelude.{◌≤◌, length};
-
 use super::*;
 use std::alloc::{AllocError, Global};
 use std::test::Fail;
 use uc_bytes::Text;
 use uc_io::{MemFiles, MemSink};
+
+mod faults;
+mod lists;
+mod selections;
 
 /// Room for each text of these tests.
 const ROOM: usize = 4_096;
@@ -40,6 +42,10 @@ const TABLE: [u32; 11] = [
     0x0000_0022,
     0xf8e5_d761,
 ];
+
+/// One core with one thread.
+const T1: &str =
+    "ucode-topology 1\nvendor intel\ncore 0 sig 0x906ea flags 0x2 rev 0xb4\ncpu 0 core 0\n";
 
 const LISTING: &str =
     "file 0 d.bin intel 1\n0 at 0 len 2048 rev 0x000000f0 date 2023-07-11 sig 0x000906ea flags 0x00000002\n";
@@ -122,6 +128,54 @@ fn run(
     Ok(run_tool(alloc, words.as_slice(), files, out))
 }
 
+/// The first words of a container: its head, a row for a signature and an id, and the bytes of its table.
+fn push_equiv(bytes: &mut Vec<u8>, table: u32, sig: u32, id: u32) -> Result<(), AllocError> {
+    push_words(bytes, &[0x0041_4d44, 0, table, sig, 0, 0, id])
+}
+
+/// A section with a patch of a length for an id, all other bytes zeros.
+fn push_section(
+    bytes: &mut Vec<u8>,
+    kind: u32,
+    rev: u32,
+    id: u32,
+    device: u32,
+    length: u32,
+) -> Result<(), AllocError> {
+    push_words(bytes, &[kind, length, 0, rev, 0, 0, device, 0, id, 0, 0, 0])?;
+    let end = bytes
+        .len()
+        .saturating_add((length as usize).saturating_sub(40));
+    bytes.resize(end, 0)
+}
+
+/// Two containers, each with a row for one signature, a row of zeros and one patch. The first section's type is given.
+fn two_containers(alloc: Global, kind: u32) -> Result<Vec<u8>, AllocError> {
+    let mut bytes = Vec::new(alloc);
+    push_equiv(&mut bytes, 32, 0x00a2_0f10, 0xa210)?;
+    push_words(&mut bytes, &[0; 4])?;
+    push_section(&mut bytes, kind, 0x0a20_102b, 0xa210, 0, 64)?;
+    push_equiv(&mut bytes, 32, 0x00a2_0f12, 0xa210)?;
+    push_words(&mut bytes, &[0; 4])?;
+    push_section(&mut bytes, 1, 0x0a20_1210, 0xa210, 0, 64)?;
+    Ok(bytes)
+}
+
+/// One update with 16 bytes of data, whose words are those of the fixtures but for these four.
+fn small(alloc: Global, rev: u32, cksum: u32, flags: u32, min: u32) -> Result<Vec<u8>, AllocError> {
+    let mut words = HEADER;
+    words[1] = rev;
+    words[4] = cksum;
+    words[6] = flags;
+    words[7] = 16;
+    words[8] = 64;
+    words[10] = min;
+    let mut bytes = Vec::new(alloc);
+    push_words(&mut bytes, &words)?;
+    push_words(&mut bytes, &[0; 4])?;
+    Ok(bytes)
+}
+
 /// Files with the updates of these tests.
 fn sample_files(alloc: Global) -> Result<MemFiles, Fail> {
     let mut files = MemFiles::new(alloc);
@@ -132,213 +186,29 @@ fn sample_files(alloc: Global) -> Result<MemFiles, Fail> {
     )?;
     files.put("two.bin", two(alloc, 0)?.as_slice())?;
     files.put("e.bin", b"")?;
+    files.put("z.bin", two_containers(alloc, 1)?.as_slice())?;
+    files.put("a.bin", small(alloc, 0xf0, 0xf8e5_d7af, 2, 0)?.as_slice())?;
+    files.put("b.bin", small(alloc, 0xf4, 0xf8e5_d7ab, 2, 0)?.as_slice())?;
+    files.put(
+        "m.bin",
+        small(alloc, 0xf0, 0xf8e5_d6fb, 2, 0xb4)?.as_slice(),
+    )?;
+    files.put("t1", T1.as_bytes())?;
     Ok(files)
 }
 
-#[test]
-fn writes_the_text_and_status_of_each_command_line(rt: HostRuntime) -> Result<(), Fail> {
-    let alloc = rt.alloc();
+/// Puts one file beside the others, and looks what the program answers.
+fn answers(
+    alloc: Global,
+    name: &str,
+    bytes: &[u8],
+    line: &str,
+    status: Status,
+    text: &str,
+) -> Result<bool, Fail> {
     let mut files = sample_files(alloc)?;
-    let table = [
-        ("", Status::Usage(0), "usage 0\n"),
-        ("help", Status::Usage(0), "usage 0\n"),
-        ("list", Status::Usage(1), "usage 1\n"),
-        ("list -x", Status::Usage(1), "usage 1\n"),
-        ("list -x b", Status::Usage(1), "usage 1\n"),
-        ("list a b", Status::Usage(2), "usage 2\n"),
-        ("list none.bin", Status::ReadFault, "error read none.bin\n"),
-        ("list d.bin", Status::Done, LISTING),
-        ("list x.bin", Status::Done, LISTING_OF_PAIRS),
-        ("list two.bin", Status::Done, LISTING_OF_TWO),
-        ("list e.bin", Status::Done, "file 0 e.bin intel 0\n"),
-    ];
-    for (line, status, text) in &table {
-        let mut out = MemSink::new(alloc, ROOM)?;
-        assert_eq!(rt; run(alloc, line, &mut files, &mut out)?, *status, "{line}");
-        assert_eq!(rt; out.bytes(), text.as_bytes(), "{line}");
-    }
-    Ok(())
-}
-
-#[test]
-fn names_the_first_fault_of_a_file_and_lists_nothing(rt: HostRuntime) -> Result<(), Fail> {
-    let alloc = rt.alloc();
-    let mut many = Vec::new(alloc);
-    for _ in 0..65_537 {
-        push_small(&mut many, 0xf0, 0xf8e5_d7af, 64)?;
-    }
-    let table = [
-        (update(alloc, 0, 1, 47)?, "0 short"),
-        (update(alloc, 0, 1, 48)?, "0 truncated"),
-        (update(alloc, 0, 2, 2_048)?, "0 version"),
-        (update(alloc, 4, 0xf8e5_d7fe, 2_048)?, "0 sum"),
-        (update(alloc, 0, 1, 2_052)?, "2048 short"),
-        (two(alloc, 1)?, "64 sum"),
-        (
-            with_table(alloc, 108, 0x0e22_431f, 0xf8e5_d762, 108)?,
-            "0 entry-sum 1",
-        ),
-        (
-            with_table(alloc, 108, 0x0e22_4321, 0xf8e5_d761, 108)?,
-            "0 ext-sum",
-        ),
-        (
-            with_table(alloc, 80, 0x0e22_4320, 0xf8e5_d761, 80)?,
-            "0 ext-cut",
-        ),
-        (
-            with_table(alloc, 96, 0x0e22_4320, 0xf8e5_d761, 96)?,
-            "0 ext-count",
-        ),
-        (many, "4194304 too-many"),
-        (update(alloc, 0, 0x0041_4d44, 2_048)?, "0 later"),
-    ];
-    for (bytes, fault) in &table {
-        let mut files = MemFiles::new(alloc);
-        files.put("f.bin", bytes.as_slice())?;
-        let mut out = MemSink::new(alloc, ROOM)?;
-        let status = run(alloc, "list f.bin", &mut files, &mut out)?;
-        assert_eq!(rt; status, Status::BadInput, "{fault}");
-        let text = format!(in alloc; "error file f.bin at {fault}\n")?;
-        assert_eq!(rt; out.bytes(), text.as_bytes(), "{fault}");
-    }
-    Ok(())
-}
-
-#[test]
-fn refuses_each_front_of_a_file(rt: HostRuntime) -> Result<(), Fail> {
-    let alloc = rt.alloc();
-    for length in 1..108 {
-        let bytes = with_table(alloc, 108, 0x0e22_4320, 0xf8e5_d761, length)?;
-        let mut files = MemFiles::new(alloc);
-        files.put("x.bin", bytes.as_slice())?;
-        let mut out = MemSink::new(alloc, ROOM)?;
-        let status = run(alloc, "list x.bin", &mut files, &mut out)?;
-        assert_eq!(rt; status, Status::BadInput, "{length} bytes");
-        let text = if length < 48 {
-            "error file x.bin at 0 short\n"
-        } else {
-            "error file x.bin at 0 truncated\n"
-        };
-        assert_eq!(rt; out.bytes(), text.as_bytes(), "{length} bytes");
-    }
-    Ok(())
-}
-
-/// How long the first lines of a text are.
-fn length_of_lines(text: &str, count: usize) -> usize
-    ensures { result ≤ length text.now }
-{
-    let mut taken = 0usize;
-    for line in text.split_inclusive('\n').take(count) {
-        taken = taken.saturating_add(line.len());
-    }
-    taken.min(text.len())
-}
-
-#[test]
-fn a_sink_that_fails_has_the_lines_before(rt: HostRuntime) -> Result<(), Fail> {
-    let alloc = rt.alloc();
-    let mut files = sample_files(alloc)?;
-    let table = [
-        ("list d.bin", LISTING),
-        ("list x.bin", LISTING_OF_PAIRS),
-        ("list two.bin", LISTING_OF_TWO),
-        ("list none.bin", "error read none.bin\n"),
-        ("list", "usage 1\n"),
-    ];
-    for (line, text) in &table {
-        let lines = text.lines().count();
-        for write in 1..lines + 1 {
-            let mut out = MemSink::new(alloc, ROOM)?;
-            out.fail_at(write as u32);
-            let status = run(alloc, line, &mut files, &mut out)?;
-            assert_eq!(rt; status, Status::WriteFault, "{line}, write {write}");
-            let taken = length_of_lines(text, write - 1);
-            assert_eq!(rt;
-                out.bytes(),
-                &text.as_bytes()[..taken],
-                "{line}, write {write}"
-            );
-        }
-        let mut out = MemSink::new(alloc, ROOM)?;
-        out.fail_at(lines as u32 + 1);
-        run(alloc, line, &mut files, &mut out)?;
-        assert_eq!(rt; out.bytes(), text.as_bytes(), "{line}");
-    }
-    Ok(())
-}
-
-#[test]
-fn a_sink_without_room_has_a_front_of_the_text(rt: HostRuntime) -> Result<(), Fail> {
-    let alloc = rt.alloc();
-    let mut files = sample_files(alloc)?;
-    for room in 0..LISTING_OF_PAIRS.len() {
-        let mut out = MemSink::new(alloc, room)?;
-        let status = run(alloc, "list x.bin", &mut files, &mut out)?;
-        assert_eq!(rt; status, Status::WriteFault, "room for {room} bytes");
-        assert_eq!(rt;
-            out.bytes(),
-            &LISTING_OF_PAIRS.as_bytes()[..room],
-            "room for {room} bytes"
-        );
-    }
-    Ok(())
-}
-
-#[test]
-fn a_read_that_fails_is_named(rt: HostRuntime) -> Result<(), Fail> {
-    let alloc = rt.alloc();
-    let mut files = sample_files(alloc)?;
-    files.fail_at(1)?;
+    files.put(name, bytes)?;
     let mut out = MemSink::new(alloc, ROOM)?;
-    let status = run(alloc, "list d.bin", &mut files, &mut out)?;
-    assert_eq!(rt; status, Status::ReadFault);
-    assert_eq!(rt; out.bytes(), b"error read d.bin\n".as_slice());
-    Ok(())
-}
-
-#[test]
-fn the_line_of_an_update_shows_its_date_and_minimum(rt: HostRuntime) -> Result<(), Fail> {
-    let alloc = rt.alloc();
-    let table = [
-        (
-            10,
-            0xb4,
-            " date 2023-07-11 sig 0x000906ea flags 0x00000002 min 0x000000b4\n",
-        ),
-        (2, 0x0229_2023, " date - sig 0x000906ea flags 0x00000002\n"),
-        (
-            2,
-            0x0229_2024,
-            " date 2024-02-29 sig 0x000906ea flags 0x00000002\n",
-        ),
-        (
-            2,
-            0x0101_0000,
-            " date 0000-01-01 sig 0x000906ea flags 0x00000002\n",
-        ),
-        (2, 0x0711_202a, " date - sig 0x000906ea flags 0x00000002\n"),
-    ];
-    for (place, value, end) in &table {
-        let mut changed = HEADER;
-        changed[4] = 0;
-        if *place < 12 {
-            changed[*place] = *value;
-        }
-        let sum = changed
-            .iter()
-            .fold(0u32, |sum, word| sum.wrapping_add(*word));
-        changed[4] = 0u32.wrapping_sub(sum);
-        let mut bytes = Vec::new(alloc);
-        push_words(&mut bytes, &changed)?;
-        bytes.resize(2_048, 0)?;
-        let mut files = MemFiles::new(alloc);
-        files.put("d.bin", bytes.as_slice())?;
-        let mut out = MemSink::new(alloc, ROOM)?;
-        let status = run(alloc, "list d.bin", &mut files, &mut out)?;
-        assert_eq!(rt; status, Status::Done, "{end}");
-        assert!(rt; out.bytes().ends_with(end.as_bytes()), "{end}");
-    }
-    Ok(())
+    let found = run(alloc, line, &mut files, &mut out)?;
+    Ok(found == status && out.bytes() == text.as_bytes())
 }

@@ -1,7 +1,22 @@
-ghost use Rattle.std.specs.Prelude.{◌≡◌, MatchResult};
-ghost use Rattle.tool_text.specs.Words.{asked, is_name, Faulty, ListOf};
+//! The rule of the command line.
+ghost use Rattle.std.specs.Prelude.{◌≡◌, ◌+◌, ◌≤◌, ◌<◌, Ok, Err, length, MatchResult, IfOk};
+ghost use Rattle.tool_text.specs.Words.{Asked, ListOf, asked, is_name, may_name, may_show, wrong_word, unless_wrong, show_of, select_of, Faulty};
+ghost use Rattle.uc_cli.specs.Words.{Asks, HasFewNames};
 
+use tool_text::MOST_FILES;
 use uc_bytes::Text;
+use uc_text::number;
+
+/// A command with its words.
+#[derive(Clone, Copy, Debug)]
+pub enum Command<'a> {
+    /// `list FILE..`
+    List(&'a [Text]),
+    /// `show FILE N`
+    Show(&'a Text, u64),
+    /// `select TOPOLOGY FILE..`
+    Select(&'a Text, &'a [Text]),
+}
 
 /// Whether a word may stand for the name of a file.
 fn is_name(word: &Text) -> bool
@@ -10,20 +25,89 @@ fn is_name(word: &Text) -> bool
     !word.as_str().starts_with('-')
 }
 
-/// The name of the file that the words ask to list, or the index of the first word that cannot stand in its place.
-pub fn read_words(words: &[Text]) -> Result<&Text, u32>
-    ensures { MatchResult result (λ name. asked words.now ≡ ListOf name.now) (λ index. asked words.now ≡ Faulty index) }
+/// The index of the first word that is no name or stands behind the last index that one may have, where the words are
+/// numbered from `first` on; or `first`, where there is no word.
+fn wrong_name(words: &[Text], first: u32, last: u32) -> Option<u32>
+    requires within { first ≤ last }
+    requires small { last < 100 }
+    ensures { result ≡ wrong_word (may_name last) (first + 1) first words.now }
 {
-    let [command, names @ ..] = words else {
-        return Err(0);
-    };
-    if command.as_str() != "list" {
-        return Err(0);
+    if words.is_empty() {
+        return Some(first);
     }
-    match names {
+    let mut index = first;
+    'names: for word in words {
+        if index > last || !is_name(word) {
+            return Some(index);
+        }
+        index += 1;
+    }
+    None
+}
+
+/// The words behind `list`.
+fn list_words(words: &[Text]) -> Result<Command<'_>, u32>
+    ensures asks { Asks (unless_wrong (wrong_word (may_name MOST_FILES) 2 1 words.now) (ListOf words.now)) result }
+    ensures few { IfOk result HasFewNames }
+{
+    match wrong_name(words, 1, MOST_FILES) {
+        Some(index) => Err(index),
+        None => Ok(Command::List(words)),
+    }
+}
+
+/// The words behind `show`.
+fn show_words(words: &[Text]) -> Result<Command<'_>, u32>
+    ensures asks { Asks (unless_wrong (wrong_word may_show 3 1 words.now) (show_of words.now)) result }
+    ensures few { IfOk result HasFewNames }
+{
+    match words {
         [] => Err(1),
         [name, ..] if !is_name(name) => Err(1),
-        [name] => Ok(name),
-        _ => Err(2),
+        [_] => Err(2),
+        [name, spelling, more @ ..] => match number(spelling.as_str().as_bytes()) {
+            None => Err(2),
+            Some(number) => {
+                if more.is_empty() {
+                    Ok(Command::Show(name, number))
+                } else {
+                    Err(3)
+                }
+            }
+        },
+    }
+}
+
+/// The words behind `select`.
+fn select_words(words: &[Text]) -> Result<Command<'_>, u32>
+    ensures asks { Asks (unless_wrong (wrong_word (may_name (1 + MOST_FILES)) 3 1 words.now) (select_of words.now)) result }
+    ensures few { IfOk result HasFewNames }
+{
+    let [topology, names @ ..] = words else {
+        return Err(1);
+    };
+    if !is_name(topology) {
+        return Err(1);
+    }
+    match wrong_name(names, 2, 1 + MOST_FILES) {
+        Some(index) => Err(index),
+        None => Ok(Command::Select(topology, names)),
+    }
+}
+
+/// The command that the words ask for, or the index of the first word that cannot stand in its place, which is the number
+/// of words where one is missing.
+pub fn read_words(words: &[Text]) -> Result<Command<'_>, u32>
+    ensures asks { Asks (asked words.now) result }
+    ensures few { IfOk result HasFewNames }
+{
+    let [command, rest @ ..] = words else {
+        return Err(0);
+    };
+    match command.as_str() {
+        "list" => list_words(rest),
+        "show" => show_words(rest),
+        "select" => select_words(rest),
+        _ => Err(0),
     }
 }

@@ -1,17 +1,29 @@
-use Rattle.std.proofs.Common.{None, refl}
+use Rattle.std.proofs.Common.{None, refl, subst}
 use Rattle.top_call.specs.declared.status.Status.TheVariants.{Usage}
 use Rattle.top_call.proofs.Endings.{Ends-written, Written-ends}
-use Rattle.uc_cli.proofs.Refusals.{no_file}
+use Rattle.report_text.specs.Lines.{usage_line}
+use Rattle.tool_text.specs.Words.{Asked, Faulty}
+use Rattle.tool_text.specs.Tool.{AskedText, CanBeDone}
+use Rattle.uc_cli.specs.Words.{asked_of}
+use Rattle.uc_cli.proofs.Endings.{no_file, done_or_memory}
 use Rattle.uc_cli.proofs.tool.run_tool.Goals as goal
 
-pub returns-in-Ok-clause-written : goal.returns-in-Ok-clause-written
-returns-in-Ok-clause-written g c = λ tells. rw c.in-Ok.ensures (c.list.ensures.written tells)
-
 pub returns-in-Ok-clause-usage : goal.returns-in-Ok-clause-usage
-returns-in-Ok-clause-usage g c = rw c.in-Ok.ensures c.list.ensures.usage
+returns-in-Ok-clause-usage g c = rw c.in-Ok.ensures.asks c.run.ensures.usage
+
+pub returns-in-Ok-clause-done : goal.returns-in-Ok-clause-done
+returns-in-Ok-clause-done g c = λ tell can no_read no_write.
+    let holds = g.F.Files.holds c.args.files.now in
+    done_or_memory g.S.Sink.stands _ _ (asked_of c.in-Ok.command) holds _ (g.F.Pieces.faults c.args.files.now, g.F.Pieces.faults c.run.new.files) (g.S.Sink.faults c.args.out.now, g.S.Sink.faults c.run.new.out) c.run.result
+    (subst (λ (line : Asked). CanBeDone line holds) c.in-Ok.ensures.asks can)
+    (c.run.ensures.written tell)
+    c.run.ensures.read_cause
+    c.run.ensures.write_cause
+    no_read
+    no_write
 
 pub returns-in-Err-clause-written : goal.returns-in-Err-clause-written
-returns-in-Err-clause-written g c = λ tells.
-    rw c.in-Err.ensures
-    (Written-ends _ _ g.S.Sink.stands g.S.Sink.faults _ _ None _ (Usage c.in-Err.index) _ tt (refl, refl) tt no_file
+returns-in-Err-clause-written g c = λ tell.
+    rw c.in-Err.ensures.asks
+    (Written-ends (AskedText (Faulty c.in-Err.index) (g.F.Files.holds c.args.files.now)) _ g.S.Sink.stands g.S.Sink.faults _ _ None (usage_line c.in-Err.index) (Usage c.in-Err.index) _ tt (refl, refl) tt no_file
     (Ends-written g.S.Sink.stands g.S.Sink.faults _ _ _ (Usage c.in-Err.index) _ _ c.put_usage.ensures c.after_write.ensures))

@@ -1,0 +1,4 @@
+pub mod Lines
+pub mod Listing
+pub mod Offers
+pub mod Show

@@ -1,0 +1,119 @@
+-- What a command wrote, and why it ended.
+use Rattle.std.proofs.Common.{◌≡◌, ◌⊎◌, inl, inr, ℕ, List, Option, Some, None, Err, IsSome, refl, sym, subst, ap, arith}
+use Rattle.std.proofs.lemmas.Bool.{false≢true}
+use Rattle.uc_bytes.specs.declared.causes.FileCause.{FileCause}
+use Rattle.uc_io.specs.Faults.{Rose}
+use Rattle.top_call.specs.declared.status.Status.{Status}
+use Rattle.top_call.specs.declared.status.Status.TheVariants as statuses
+use Rattle.top_call.specs.Status.{code_of}
+use Rattle.top_call.specs.Causes.{ReadCause, WriteCause}
+use Rattle.top_call.specs.Written.{Written, Ends, HasText}
+use Rattle.top_call.proofs.Endings.{Written-ends, Written-memory, StartsText-nothing}
+use Rattle.report_text.specs.Lines.{unread_line, fault_line, topology_line}
+use Rattle.tool_text.specs.Reads.{Refuses, ComesTo}
+use Rattle.tool_text.specs.Words.{Asked}
+use Rattle.tool_text.specs.Commands.{SelectText}
+use Rattle.tool_text.specs.Tool.{AskedText, CanBeDone}
+use Rattle.tool_text.proofs.SomeText.{select_text}
+use Rattle.tool_text.proofs.Complete.{IsEnd, complete}
+use Rattle.uc_cli.specs.Reading.{AreFilesRead, IsTopologyRead}
+use Rattle.uc_cli.specs.Refusal.{line_of, status_of}
+use Rattle.uc_cli.specs.declared.refusal.Refusal.{Refusal}
+use Rattle.uc_cli.specs.declared.refusal.Refusal.TheVariants.{Unread, BadFile, BadTopology, NoEntry, NoMemory}
+
+pub no_file : {P : Type 0} → IsSome {T = ℕ} None → P
+no_file some = absurd (false≢true some)
+
+module _ {D : Type 0} (stands : D → List ℕ → Type 0) (faults : D → ℕ) (old new : D) where
+  -- a write fault of a run that was to end with a status has its cause
+  pub ended_cause : (text : List ℕ) (meant status : Status) → WriteCause (faults old) (faults new) meant → Ends stands faults old new text meant status → WriteCause (faults old) (faults new) status
+  ended_cause text meant status cause ends = elim ends.outcome [
+    | inl whole ↦ subst (WriteCause (faults old) (faults new)) (sym whole.0) cause
+    | inr cut ↦ subst (WriteCause (faults old) (faults new)) (sym cut.0) cut.2
+  ]
+
+  -- and a read fault
+  pub ended_read : (before now : ℕ) (text : List ℕ) (meant status : Status) → ReadCause before now meant → Ends stands faults old new text meant status → ReadCause before now status
+  ended_read before now text meant status cause ends = elim ends.outcome [
+    | inl whole ↦ subst (ReadCause before now) (sym whole.0) cause
+    | inr cut ↦ subst (ReadCause before now) (sym cut.0) tt
+  ]
+
+  -- a run that did all
+  pub done_written : (texts : Option ℕ → List ℕ → Status → Type 0) (rose : Type 0) (text : List ℕ) (status : Status) → texts None text statuses.Done → Ends stands faults old new text statuses.Done status → Written texts rose stands old new status
+  done_written texts rose text status is ends = Written-ends texts rose stands faults old new None text statuses.Done status tt is tt no_file ends
+
+  -- a run that ended with bad input
+  pub bad_written : (texts : Option ℕ → List ℕ → Status → Type 0) (rose : Type 0) (text : List ℕ) (status : Status) → texts None text statuses.BadInput → Ends stands faults old new text statuses.BadInput status → Written texts rose stands old new status
+  bad_written texts rose text status is ends = Written-ends texts rose stands faults old new None text statuses.BadInput status tt is tt no_file ends
+
+  -- a run that a failed read ended
+  pub unread_written : (texts : Option ℕ → List ℕ → Status → Type 0) (rose : Type 0) (k : ℕ) (text : List ℕ) (status : Status) → rose → texts (Some k) text statuses.ReadFault → Ends stands faults old new text statuses.ReadFault status
+      → Written texts rose stands old new status
+  unread_written texts rose k text status rises is ends = Written-ends texts rose stands faults old new (Some k) text statuses.ReadFault status tt is tt (λ some. rises) ends
+
+  -- a run without memory
+  pub memory_written : (texts : Option ℕ → List ℕ → Status → Type 0) (rose : Type 0) (status : Status) → HasText texts → Ends stands faults old new (line_of NoMemory) statuses.NoMemory status → Written texts rose stands old new status
+  memory_written texts rose status has ends = Written-memory texts rose stands faults old new status (StartsText-nothing texts rose has) ends
+
+  -- a run that did not get all of its update files, by the texts for one that is not read or is refused
+  pub files_refused : (texts : Option ℕ → List ℕ → Status → Type 0) {tells : Type 0} (names : List (List ℕ)) (holds : List ℕ → List ℕ) (before now : ℕ) (refusal : Refusal) (status : Status) → HasText texts
+      → ((k : ℕ) (name : List ℕ) → ComesTo names holds k name → (j : ℕ) × texts (Some j) (unread_line name) statuses.ReadFault)
+      → ((k : ℕ) (name : List ℕ) (offset : ℕ) (cause : FileCause) → ComesTo names holds k name → Refuses (holds name) offset cause → texts None (fault_line name offset cause) statuses.BadInput)
+      → tells → AreFilesRead tells names holds before now (Err refusal) → Ends stands faults old new (line_of refusal) (status_of refusal) status → Written texts (Rose before now) stands old new status
+  files_refused texts names holds before now (Unread name) status has unread bad tell read ends =
+      let comes = read.1 tell in
+      let text = unread comes.0 name.now comes.1 in
+      unread_written texts (Rose before now) text.0 (unread_line name.now) status read.0 text.1 ends
+  files_refused texts names holds before now (BadFile name fault) status has unread bad tell read ends =
+      let comes = read.1 tell in
+      bad_written texts (Rose before now) (fault_line name.now fault.offset fault.cause) status (bad comes.0 name.now fault.offset fault.cause comes.1 comes.2) ends
+  files_refused texts names holds before now (BadTopology fault) status has unread bad tell read ends = absurd read
+  files_refused texts names holds before now (NoEntry number) status has unread bad tell read ends = absurd read
+  files_refused texts names holds before now NoMemory status has unread bad tell read ends =
+      memory_written texts (Rose before now) status has ends
+
+  -- the causes of such an end
+  pub files_cause : (tells : Type 0) (names : List (List ℕ)) (holds : List ℕ → List ℕ) (before now : ℕ) (refusal : Refusal) → AreFilesRead tells names holds before now (Err refusal)
+      → ReadCause before now (status_of refusal) × WriteCause (faults old) (faults new) (status_of refusal)
+  files_cause tells names holds before now (Unread name) read = (read.0, tt)
+  files_cause tells names holds before now (BadFile name fault) read = (read.0, tt)
+  files_cause tells names holds before now (BadTopology fault) read = absurd read
+  files_cause tells names holds before now (NoEntry number) read = absurd read
+  files_cause tells names holds before now NoMemory read = (tt, tt)
+
+  -- a run that did not get its topology
+  pub topology_refused : {tells : Type 0} (topology : List ℕ) (names : List (List ℕ)) (holds : List ℕ → List ℕ) (before now : ℕ) (refusal : Refusal) (status : Status) → tells
+      → IsTopologyRead tells topology (holds topology) before now (Err refusal) → Ends stands faults old new (line_of refusal) (status_of refusal) status → Written (SelectText topology names holds) (Rose before now) stands old new status
+  topology_refused topology names holds before now (Unread name) status tell read ends =
+      unread_written (SelectText topology names holds) (Rose before now) 0 (unread_line name.now) status read.0 (inl (refl, ap unread_line read.1)) ends
+  topology_refused topology names holds before now (BadFile name fault) status tell read ends = absurd read
+  topology_refused topology names holds before now (BadTopology fault) status tell read ends =
+      bad_written (SelectText topology names holds) (Rose before now) (topology_line fault.line fault.cause) status
+      (inl (record { line = fault.line; cause = fault.cause; refuses = read.1 tell; lines = refl }))
+      ends
+  topology_refused topology names holds before now (NoEntry number) status tell read ends = absurd read
+  topology_refused topology names holds before now NoMemory status tell read ends =
+      memory_written (SelectText topology names holds) (Rose before now) status (select_text topology names holds) ends
+
+-- a status that is no end of a run that could be done
+not_end : (status : Status) → (code_of status ≡ 0 → ⊥) → (code_of status ≡ 4 → ⊥) → IsEnd status → ⊥
+not_end status not_done not_unread (inl done) = not_done (ap code_of done)
+not_end status not_done not_unread (inr unread) = not_unread (ap code_of unread)
+
+-- what can be done is done, where no count of faults rose and memory is there
+pub done_or_memory : {D : Type 0} (stands : D → List ℕ → Type 0) (old new : D) (line : Asked) (holds : List ℕ → List ℕ) (rose : Type 0) (read wrote : ℕ × ℕ) (status : Status) → CanBeDone line holds
+    → Written (AskedText line holds) rose stands old new status → ReadCause read.0 read.1 status → WriteCause wrote.0 wrote.1 status → (Rose read.0 read.1 → ⊥) → (Rose wrote.0 wrote.1 → ⊥)
+    → (status ≡ statuses.Done) ⊎ (status ≡ statuses.NoMemory)
+done_or_memory stands old new line holds rose read wrote statuses.Done can written rc wc no_read no_write = inl refl
+done_or_memory stands old new line holds rose read wrote (statuses.Usage k) can written rc wc no_read no_write =
+    absurd (not_end (statuses.Usage k) (λ e. omega (arith, e)) (λ e. omega (arith, e)) (complete line holds written.files written.text _ can written.is_text))
+done_or_memory stands old new line holds rose read wrote statuses.BadInput can written rc wc no_read no_write =
+    absurd (not_end statuses.BadInput (λ e. omega (arith, e)) (λ e. omega (arith, e)) (complete line holds written.files written.text _ can written.is_text))
+done_or_memory stands old new line holds rose read wrote statuses.Short can written rc wc no_read no_write =
+    absurd (not_end statuses.Short (λ e. omega (arith, e)) (λ e. omega (arith, e)) (complete line holds written.files written.text _ can written.is_text))
+done_or_memory stands old new line holds rose read wrote statuses.ReadFault can written rc wc no_read no_write = absurd (no_read rc)
+done_or_memory stands old new line holds rose read wrote statuses.WriteFault can written rc wc no_read no_write = absurd (no_write wc)
+done_or_memory stands old new line holds rose read wrote (statuses.Panicked t) can written rc wc no_read no_write =
+    absurd (not_end (statuses.Panicked t) (λ e. omega (arith, e)) (λ e. omega (arith, e)) (complete line holds written.files written.text _ can written.is_text))
+done_or_memory stands old new line holds rose read wrote statuses.NoMemory can written rc wc no_read no_write = inr refl

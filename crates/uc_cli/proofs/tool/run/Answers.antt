@@ -1,0 +1,10 @@
+use Rattle.uc_cli.proofs.tool.run.Goals as goal
+
+pub returns-in-List-clause-written : goal.returns-in-List-clause-written
+returns-in-List-clause-written g c = λ tell. rw c.in-List.is (c.list.ensures.written tell)
+
+pub returns-in-Show-clause-written : goal.returns-in-Show-clause-written
+returns-in-Show-clause-written g c = λ tell. rw c.in-Show.is (c.show.ensures.written tell)
+
+pub returns-in-Select-clause-written : goal.returns-in-Select-clause-written
+returns-in-Select-clause-written g c = λ tell. rw c.in-Select.is (c.select.ensures.written tell)

@@ -1,0 +1,7 @@
+use Rattle.std.proofs.Common.{sym, ◌∙◌, arith, length, take, drop, ◌-◌}
+use Rattle.uc_cli.proofs.Names.{few_names}
+use Rattle.uc_cli.proofs.words.select_words.Goals as goal
+
+pub returns-in-None-clause-few : goal.returns-in-None-clause-few
+returns-in-None-clause-few c =
+    omega (arith, few_names 17 3 2 (take (length c.args.words.now - 1) (drop 1 c.args.words.now)) (omega arith) (sym c.wrong_name.ensures ∙ c.in-None.is))

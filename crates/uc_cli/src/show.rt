@@ -1,0 +1,42 @@
+//! `show`: one entry of an update file, with its bytes.
+ghost use Rattle.std.specs.Prelude.{◌≡◌};
+ghost use Rattle.uc_io.specs.Faults.{Rose};
+ghost use Rattle.top_call.specs.Causes.{ReadCause, WriteCause};
+ghost use Rattle.top_call.specs.Written.{Written};
+ghost use Rattle.tool_text.specs.Commands.{ShowText};
+ghost use Rattle.tool_text.specs.Tool.{UsageCause};
+ghost use Rattle.tool_text.specs.Words.{ShowOf};
+
+use crate::reading::read_files;
+use crate::refusal::{Refusal, refuse};
+use std::alloc::Global;
+use std::slice::from_ref;
+use top_call::{Status, after_write};
+use uc_bytes::Text;
+use uc_io::{Files, Sink};
+use uc_report::put_show;
+
+/// Reads the file of a name and shows the entry of a number, or says why there is none to show.
+pub fn show<F: Files, S: Sink>(
+    alloc: Global,
+    name: &Text,
+    number: u64,
+    files: &mut F,
+    out: &mut S,
+) -> Status
+    ensures written { F.tells files.old → Written (ShowText name.now number (F.holds files.old)) (Rose (F.faults files.old) (F.faults files.new)) S.stands out.old out.new result }
+    ensures usage { UsageCause (ShowOf name.now number) result }
+    ensures read_cause { ReadCause (F.faults files.old) (F.faults files.new) result }
+    ensures write_cause { WriteCause (S.faults out.old) (S.faults out.new) result }
+{
+    match read_files(alloc, from_ref(name), files) {
+        Ok(catalog) => {
+            if number < u64::from(catalog.len()) {
+                after_write(Status::Done, put_show(out, &catalog, number as u32))
+            } else {
+                refuse(out, Refusal::NoEntry(number))
+            }
+        }
+        Err(refusal) => refuse(out, refusal),
+    }
+}

@@ -1,0 +1,300 @@
+ghost use Rattle.std.specs.Prelude.{◌<◌, ◌↔◌, All, IfSome, IsTrue};
+
+use super::*;
+use std::alloc::{AllocError, Global};
+use std::test::Fail;
+use uc_bytes::{FileCause, FileFault, Text};
+use uc_catalog::Catalog;
+use uc_io::{MemSink, SinkFailed};
+use uc_topology::{TopoCause, TopoFault, Topology, read_topology};
+
+/// Room for each text of these tests.
+const ROOM: usize = 4_096;
+
+/// An update of 64 bytes for signature 0x906ea and flags 2, of 2023-07-11, with data of zeros.
+fn push_update(
+    bytes: &mut Vec<u8>,
+    rev: u32,
+    cksum: u32,
+    total: u32,
+    min: u32,
+) -> Result<(), AllocError> {
+    let words = [
+        1,
+        rev,
+        0x0711_2023,
+        0x0009_06ea,
+        cksum,
+        1,
+        2,
+        16,
+        total,
+        0,
+        min,
+        0,
+        0,
+        0,
+        0,
+        0,
+    ];
+    push_words(bytes, &words)
+}
+
+fn push_words(bytes: &mut Vec<u8>, words: &[u32]) -> Result<(), AllocError> {
+    for word in words {
+        bytes.extend_from_slice(&word.to_le_bytes())?;
+    }
+    Ok(())
+}
+
+/// Adds a file; every file here is short enough, and there are few.
+fn add(catalog: &mut Catalog, bytes: Vec<u8>) -> Result<(), Fail> {
+    if catalog.files() < 16 && bytes.len() <= 67_108_864 && catalog.add(bytes).is_ok() {
+        return Ok(());
+    }
+    Err(Fail::from("a file is refused"))
+}
+
+/// An update with a table for two pairs; one of a minimum; and two updates in one file.
+fn three_files(alloc: Global) -> Result<Catalog, Fail> {
+    let mut table = Vec::new(alloc);
+    push_update(&mut table, 0xf0, 0xf8e5_d783, 108, 0)?;
+    push_words(&mut table, &[2, 0x0e22_4320, 0, 0, 0])?;
+    push_words(&mut table, &[0x0009_06eb, 2, 0xf8e5_d782])?;
+    push_words(&mut table, &[0x0009_06ec, 0x22, 0xf8e5_d761])?;
+    let mut least = Vec::new(alloc);
+    push_update(&mut least, 0xf0, 0xf8e5_d6fb, 64, 0xb4)?;
+    let mut two = Vec::new(alloc);
+    push_update(&mut two, 0xf0, 0xf8e5_d7af, 64, 0)?;
+    push_update(&mut two, 0xf4, 0xf8e5_d7ab, 64, 0)?;
+    let mut catalog = Catalog::new(alloc);
+    add(&mut catalog, table)?;
+    add(&mut catalog, least)?;
+    add(&mut catalog, two)?;
+    Ok(catalog)
+}
+
+/// A container of one row for a signature, a row of zeros and one patch of 64 bytes.
+fn push_container(bytes: &mut Vec<u8>, sig: u32, rev: u32) -> Result<(), AllocError> {
+    push_words(bytes, &[0x0041_4d44, 0, 32])?;
+    push_words(bytes, &[sig, 0, 0, 0xa210])?;
+    push_words(bytes, &[0; 4])?;
+    push_words(bytes, &[1, 64, 0, rev, 0, 0, 0, 0, 0xa210])?;
+    push_words(bytes, &[0; 9])
+}
+
+const LISTING: &str = "file 0 x.bin intel 1
+0 at 0 len 108 rev 0x000000f0 date 2023-07-11 sig 0x000906ea flags 0x00000002
+  pair 0x000906eb 0x00000002
+  pair 0x000906ec 0x00000022
+file 1 m.bin intel 1
+1 at 0 len 64 rev 0x000000f0 date 2023-07-11 sig 0x000906ea flags 0x00000002 min 0x000000b4
+file 2 b.bin intel 2
+2 at 0 len 64 rev 0x000000f0 date 2023-07-11 sig 0x000906ea flags 0x00000002
+3 at 64 len 64 rev 0x000000f4 date 2023-07-11 sig 0x000906ea flags 0x00000002
+";
+
+const SHOWN: &str = "0 at 0 len 64 rev 0x000000f0 date 2023-07-11 sig 0x000906ea flags 0x00000002
+01000000f000000023201107ea060900afd7e5f8010000000200000010000000
+4000000000000000000000000000000000000000000000000000000000000000
+";
+
+/// Writes the list of the files, where their names are as many.
+fn list(out: &mut MemSink, catalog: &Catalog, names: &[Text]) -> Result<(), SinkFailed> {
+    if names.len() == catalog.files() as usize {
+        put_list(out, catalog, names)
+    } else {
+        Err(SinkFailed)
+    }
+}
+
+/// Shows an entry, where it is there.
+fn show(out: &mut MemSink, catalog: &Catalog, i: u32) -> Result<(), SinkFailed> {
+    if i < catalog.len() {
+        put_show(out, catalog, i)
+    } else {
+        Err(SinkFailed)
+    }
+}
+
+fn names(alloc: Global, names: &str) -> Result<Vec<Text>, AllocError> {
+    let mut texts = Vec::new(alloc);
+    for name in names.split_whitespace() {
+        texts.push(Text::new(String::from_str(alloc, name)?))?;
+    }
+    Ok(texts)
+}
+
+#[test]
+fn a_list_numbers_entries_over_all_files(rt: HostRuntime) -> Result<(), Fail> {
+    let catalog = three_files(rt.alloc())?;
+    let names = names(rt.alloc(), "x.bin m.bin b.bin")?;
+    let mut out = MemSink::new(rt.alloc(), ROOM)?;
+    assert!(rt; list(&mut out, &catalog, names.as_slice()).is_ok());
+    assert_eq!(rt; out.bytes(), LISTING.as_bytes());
+    Ok(())
+}
+
+/// The update A of revision 0xf0.
+fn one_file(alloc: Global) -> Result<Catalog, Fail> {
+    let mut file = Vec::new(alloc);
+    push_update(&mut file, 0xf0, 0xf8e5_d7af, 64, 0)?;
+    let mut catalog = Catalog::new(alloc);
+    add(&mut catalog, file)?;
+    Ok(catalog)
+}
+
+#[test]
+fn an_entry_is_shown_with_its_bytes(rt: HostRuntime) -> Result<(), Fail> {
+    let catalog = one_file(rt.alloc())?;
+    let mut out = MemSink::new(rt.alloc(), ROOM)?;
+    assert!(rt; show(&mut out, &catalog, 0).is_ok());
+    assert_eq!(rt; out.bytes(), SHOWN.as_bytes());
+    Ok(())
+}
+
+/// The first lines of a text.
+fn first_lines(text: &str, lines: u32) -> &[u8] {
+    let bytes = text.as_bytes();
+    let mut left = lines;
+    for (i, byte) in bytes.iter().enumerate() {
+        if left == 0 {
+            return &bytes[..i];
+        }
+        if *byte == b'\n' {
+            left -= 1;
+        }
+    }
+    bytes
+}
+
+#[test]
+fn each_line_is_one_write(rt: HostRuntime) -> Result<(), Fail> {
+    let listed = three_files(rt.alloc())?;
+    let shown = one_file(rt.alloc())?;
+    let names = names(rt.alloc(), "x.bin m.bin b.bin")?;
+    for write in 1..10 {
+        let mut out = MemSink::new(rt.alloc(), ROOM)?;
+        out.fail_at(write);
+        assert!(rt; list(&mut out, &listed, names.as_slice()).is_err());
+        assert_eq!(rt; out.bytes(), first_lines(LISTING, write - 1), "at {write}");
+    }
+    for write in 1..4 {
+        let mut out = MemSink::new(rt.alloc(), ROOM)?;
+        out.fail_at(write);
+        assert!(rt; show(&mut out, &shown, 0).is_err());
+        assert_eq!(rt; out.bytes(), first_lines(SHOWN, write - 1), "at {write}");
+    }
+    Ok(())
+}
+
+fn are_entries(offers: &[Option<u32>], entries: u32) -> bool
+    ensures { IsTrue result ↔ All (λ offer. IfSome offer (λ number. number < entries)) offers.now }
+{
+    offers.iter().all(|offer| match offer {
+        Some(number) => *number < entries,
+        None => true,
+    })
+}
+
+/// Writes what the cores of a machine are offered, where there is an offer for each group, and each is an entry.
+fn offer(
+    out: &mut MemSink,
+    topology: &Topology,
+    catalog: &Catalog,
+    offers: &[Option<u32>],
+) -> Result<(), SinkFailed> {
+    if offers.len() == topology.groups() as usize && are_entries(offers, catalog.len()) {
+        put_offers(out, topology, catalog, offers)
+    } else {
+        Err(SinkFailed)
+    }
+}
+
+/// Four cores, the first and the third in one group.
+const MACHINE: &[u8] = b"ucode-topology 2\nvendor intel\n\
+core 0 package 0 sig 0x906ea flags 0x2 rev 0xb4\n\
+core 1 package 1 sig 0x906ea flags 0x2 rev 0xb3\n\
+core 2 package 0 sig 0x906ea flags 0x2 rev 0xb4\n\
+core 3 package 2 sig 0x906eb flags 0x2 rev 0xb4\n\
+cpu 0 core 0\ncpu 1 core 1\ncpu 2 core 2\ncpu 3 core 3\n";
+
+const OFFERS: &str = "core 0 rev 0x000000b4 offer 1 rev 0x000000f0 safe
+core 1 rev 0x000000b3 offer 1 rev 0x000000f0
+core 2 rev 0x000000b4 offer 1 rev 0x000000f0 safe
+core 3 rev 0x000000b4 offer none
+";
+
+#[test]
+fn each_core_has_the_offer_of_its_group(rt: HostRuntime) -> Result<(), Fail> {
+    let catalog = three_files(rt.alloc())?;
+    let Ok(topology) = read_topology(MACHINE) else {
+        return Err(Fail::from("no topology"));
+    };
+    let mut out = MemSink::new(rt.alloc(), ROOM)?;
+    let offers = [Some(1), Some(1), None];
+    assert!(rt; offer(&mut out, &topology, &catalog, &offers).is_ok());
+    assert_eq!(rt; out.bytes(), OFFERS.as_bytes());
+    Ok(())
+}
+
+const AMD_MACHINE: &[u8] = b"ucode-topology 1\nvendor amd\n\
+core 0 sig 0x00a20f10 flags 0 rev 0x0a201000\n\
+core 1 sig 0x00a20f12 flags 0 rev 0x0a201000\n\
+cpu 0 core 0\ncpu 1 core 1\n";
+
+const PATCHES: &str = "file 0 z.bin amd 2
+0 at 52 len 64 rev 0x0a20102b id 0x0000a210 family 0x00000019
+  sig 0x00a20f10
+1 at 168 len 64 rev 0x0a201210 id 0x0000a210 family 0x00000019
+  sig 0x00a20f12
+core 0 rev 0x0a201000 offer 0 rev 0x0a20102b
+core 1 rev 0x0a201000 offer 1 rev 0x0a201210
+";
+
+#[test]
+fn patches_are_listed_and_offered(rt: HostRuntime) -> Result<(), Fail> {
+    let mut file = Vec::new(rt.alloc());
+    push_container(&mut file, 0x00a2_0f10, 0x0a20_102b)?;
+    push_container(&mut file, 0x00a2_0f12, 0x0a20_1210)?;
+    let mut catalog = Catalog::new(rt.alloc());
+    add(&mut catalog, file)?;
+    let names = names(rt.alloc(), "z.bin")?;
+    let Ok(topology) = read_topology(AMD_MACHINE) else {
+        return Err(Fail::from("no topology"));
+    };
+    let mut out = MemSink::new(rt.alloc(), ROOM)?;
+    assert!(rt; list(&mut out, &catalog, names.as_slice()).is_ok());
+    assert!(rt; offer(&mut out, &topology, &catalog, &[Some(0), Some(1)]).is_ok());
+    assert_eq!(rt; out.bytes(), PATCHES.as_bytes());
+    Ok(())
+}
+
+const ERRORS: &str = "usage 18
+error read s
+error file x.bin at 0 entry-sum 1
+error topology line 4 no-core
+error entry 1
+";
+
+#[test]
+fn each_error_has_its_line(rt: HostRuntime) -> Result<(), Fail> {
+    let mut out = MemSink::new(rt.alloc(), ROOM)?;
+    let unread = Text::new(String::from_str(rt.alloc(), "s")?);
+    let refused = Text::new(String::from_str(rt.alloc(), "x.bin")?);
+    let fault = FileFault {
+        offset: 0,
+        cause: FileCause::EntrySum(1),
+    };
+    let topology_fault = TopoFault {
+        line: 4,
+        cause: TopoCause::NoCore,
+    };
+    assert!(rt; put_usage(&mut out, 18).is_ok());
+    assert!(rt; put_unread(&mut out, &unread).is_ok());
+    assert!(rt; put_fault(&mut out, &refused, fault).is_ok());
+    assert!(rt; put_topology_fault(&mut out, topology_fault).is_ok());
+    assert!(rt; put_no_entry(&mut out, 1).is_ok());
+    assert_eq!(rt; out.bytes(), ERRORS.as_bytes());
+    Ok(())
+}
