@@ -9,6 +9,7 @@ import sys
 import tempfile
 import time
 
+SCRIPT = os.path.abspath(__file__)
 RUNS = 15
 MIB = 2**20
 HEADER = struct.Struct("<12I")
@@ -28,6 +29,19 @@ def make_file(name, count, total):
             text.append(f"{k} at {k * total} len {total} rev 0x{k + 1:08x} "
                         "date 2023-07-11 sig 0x000906ea flags 0x00000002\n")
     return "".join(text).encode()
+
+
+def make_topology(name, cores):
+    """Writes a topology of so many cores with a thread each, no two of them alike."""
+    with open(name, "w") as file:
+        file.write("ucode-topology 1\nvendor intel\n")
+        file.writelines(f"core {c} sig 0x906ea flags 0x2 rev {c}\n" for c in range(cores))
+        file.writelines(f"cpu {c} core {c}\n" for c in range(cores))
+
+
+def selection(cores, count):
+    """The text of the selection for such a topology from a file of `count` updates."""
+    return "".join(f"core {c} rev 0x{c:08x} offer {count - 1} rev 0x{count:08x}\n" for c in range(cores)).encode()
 
 
 def start(command, stdout):
@@ -55,7 +69,7 @@ def expect(command, printed, wanted):
 
 def run(command):
     """Runs a command to its end, and returns its time in seconds and its peak resident memory in bytes. The latter counts
-    from this script's own, since a child begins as its parent; so the script never holds a large file."""
+    from this script's own, since a child begins as its parent."""
     with open(os.devnull, "wb") as nowhere:
         begin = time.perf_counter()
         _, status, usage = os.wait4(start(command, nowhere.fileno()), 0)
@@ -65,9 +79,15 @@ def run(command):
     return taken, usage.ru_maxrss * 1024
 
 
-def time_ratio(command, to):
+def peak_above(command, size):
+    """Returns by how many MiB the peak memory of a command passes a size. A run of this script that holds nothing looks."""
+    looks = subprocess.run([sys.executable, SCRIPT, "peak", *command], stdout=subprocess.PIPE, check=True)
+    return (int(looks.stdout) - size) / MIB
+
+
+def time_ratio(command, to, runs=RUNS):
     """Returns how many times as long as `to` a command takes, by the least times of runs that alternate."""
-    times = [(run(command)[0], run(to)[0]) for _ in range(RUNS)]
+    times = [(run(command)[0], run(to)[0]) for _ in range(runs)]
     return min(a for a, b in times) / min(b for a, b in times)
 
 
@@ -81,7 +101,7 @@ def measure(ucode, source):
     expect(large, b"".join(writes_of(large)), text)
     expect(reader, b"".join(writes_of(reader)), b"0x00000000\n")
     to_reader = time_ratio(large, reader)
-    above = (run(large)[1] - os.path.getsize("large.bin")) / MIB
+    above = peak_above(large, os.path.getsize("large.bin"))
 
     text = make_file("whole.bin", 65536, 64)
     writes, lines = writes_of(whole), text.count(b"\n")
@@ -90,24 +110,46 @@ def measure(ucode, source):
     expect(half, b"".join(writes_of(half)), text)
     to_half = time_ratio(whole, half)
 
+    for cores in (128, 256):
+        make_topology(f"t{cores}", cores)
+    select, half_cores, half_entries = ([ucode, "select", *names] for names in (
+        ("t256", "whole.bin"), ("t128", "whole.bin"), ("t256", "half.bin")))
+    for command, wanted in ((select, selection(256, 65536)), (half_cores, selection(128, 65536)),
+                            (half_entries, selection(256, 32768))):
+        expect(command, b"".join(writes_of(command)), wanted)
+    sixteen, eight = ([ucode, "list"] + ["whole.bin"] * n for n in (16, 8))
+    of_files = os.path.getsize("whole.bin")
+
     return [
         ("64 MiB in 4,096 updates: time, to the plain reader's", f"{to_reader:.2f}", "at most 1.3"),
         ("64 MiB in 4,096 updates: peak memory", f"the file's size and {above:.1f} MiB", "the file's size and at most 32 MiB"),
         ("4 MiB in 65,536 updates: writes, to lines", f"{len(writes):,} to {lines:,}", "65,537 to 65,537"),
         ("4 MiB in 65,536 updates: time, to that of 32,768", f"{to_half:.2f}", "about 2"),
+        ("16 such files: time, to that of 8", f"{time_ratio(sixteen, eight, 5):.2f}", "about 2"),
+        ("16 such files: peak memory", f"the files' size and {peak_above(sixteen, 16 * of_files):.1f} MiB",
+         "the files' size and at most 32 MiB"),
+        ("`select` for 256 cores from 65,536 updates: time, to that for 128", f"{time_ratio(select, half_cores, 5):.2f}",
+         "about 2"),
+        ("`select` for 256 cores from 65,536 updates: time, to that from 32,768",
+         f"{time_ratio(select, half_entries, 5):.2f}", "about 2"),
+        ("`select` for 256 cores from 65,536 updates: peak memory",
+         f"the file's size and {peak_above(select, of_files):.1f} MiB", "the file's size and at most 32 MiB"),
     ]
 
 
 def main():
+    if sys.argv[1:2] == ["peak"]:
+        print(run(sys.argv[2:])[1])
+        return
     if len(sys.argv) != 2 or not os.access(sys.argv[1], os.X_OK):
         sys.exit("usage: run.py PATH, the path of the built ucode")
     ucode = os.path.abspath(sys.argv[1])
-    source = os.path.join(os.path.dirname(os.path.abspath(__file__)), "read_and_sum.c")
+    source = os.path.join(os.path.dirname(SCRIPT), "read_and_sum.c")
     with tempfile.TemporaryDirectory() as folder:
         os.chdir(folder)
         rows = measure(ucode, source)
         os.chdir("/")
-    print(f"| `ucode list`, on {os.cpu_count()} cores | Measured | Target |\n|---|---|---|")
+    print(f"| `ucode list` and `select`, on {os.cpu_count()} cores | Measured | Target |\n|---|---|---|")
     for row in rows:
         print(f"| {' | '.join(row)} |")
 
