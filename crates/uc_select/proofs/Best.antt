@@ -1,5 +1,5 @@
 -- The best of the entries up to a number.
-use Rattle.std.proofs.Common.{◌≡◌, ℕ, ◌+◌, ◌<◌, ◌≤◌, inl, inr, Bool, List, [], ◌∷◌, ◌++◌, length, Option, Some, None, refl, sym, ◌∙◌, subst, arith}
+use Rattle.std.proofs.Common.{◌≡◌, ℕ, zero, suc, ◌+◌, ◌<◌, ◌≤◌, inl, inr, Bool, List, [], ◌∷◌, ◌++◌, length, get_or, Option, Some, None, refl, sym, ◌∙◌, subst, arith}
 use Rattle.std.specs.Prelude.{slice_get}
 use Rattle.std.proofs.lemmas.Bool.{cases_lt}
 use Rattle.std.proofs.lemmas.Option.{slice_get_within}
@@ -96,3 +96,18 @@ offers_push entries [] force [] core offer are is = (is, tt)
 offers_push entries [] force (o ∷ os) core offer are is = absurd are
 offers_push entries (c ∷ cs) force [] core offer are is = absurd are
 offers_push entries (c ∷ cs) force (o ∷ os) core offer are is = (are.0, offers_push entries cs force os core offer are.1 is)
+
+-- there are as many offers as cores
+pub offers_length : (entries : List Entry) (cores : List (Option CoreFacts)) (force : Bool) (offers : List (Option ℕ)) → AreOffers entries cores force offers → length offers ≡ length cores
+offers_length entries [] force [] are = refl
+offers_length entries [] force (o ∷ os) are = absurd are
+offers_length entries (c ∷ cs) force [] are = absurd are
+offers_length entries (c ∷ cs) force (o ∷ os) are = omega (arith, offers_length entries cs force os are.1)
+
+-- and each is its core's
+pub offers_at : (entries : List Entry) (cores : List (Option CoreFacts)) (force : Bool) (offers : List (Option ℕ)) (k : ℕ) (d : Option ℕ) → AreOffers entries cores force offers → k < length cores
+    → IsOfferAt entries (get_or cores k None) force (get_or offers k d)
+offers_at entries [] force offers k d are inside = absurd (omega arith)
+offers_at entries (c ∷ cs) force [] k d are inside = absurd are
+offers_at entries (c ∷ cs) force (o ∷ os) zero d are inside = are.0
+offers_at entries (c ∷ cs) force (o ∷ os) (suc k) d are inside = offers_at entries cs force os k d are.1 (omega arith)

@@ -1,5 +1,5 @@
 //! The entry that a core is offered.
-ghost use Rattle.std.specs.Prelude.{◌<◌, ◌≤◌, ◌↔◌, IsTrue, length};
+ghost use Rattle.std.specs.Prelude.{◌≡◌, ◌<◌, ◌≤◌, ◌↔◌, IsTrue, None, length, take, slice_index_or};
 ghost use Rattle.file_entries.specs.Selection.{Admissible, IsOffer};
 ghost use Rattle.uc_catalog.specs.Contents.{entry_at};
 ghost use Rattle.uc_select.specs.Offers.{IsOfferAt, AreOffers};
@@ -48,7 +48,42 @@ fn offer_at(catalog: &Catalog, core: &Option<CoreFacts>, force: bool) -> Option<
     }
 }
 
-/// The offers of at most 256 cores, place by place; none where there is no core.
+/// The place of the first core that is equal to the one at a place: that place itself, where none before it is.
+fn first_equal(cores: &[Option<CoreFacts>], place: usize) -> usize
+    requires { place < length cores.now }
+    ensures before { result ≤ place }
+    ensures equal { slice_index_or cores.now result None ≡ slice_index_or cores.now place None }
+{
+    'cores: for earlier in 0..place {
+        if cores[earlier] == cores[place] {
+            return earlier;
+        }
+    }
+    place
+}
+
+/// The offer of the core at a place, where those before it have theirs: that of the first equal one.
+fn offer_in_turn(
+    catalog: &Catalog,
+    cores: &[Option<CoreFacts>],
+    offers: &[Option<u32>],
+    place: usize,
+    force: bool,
+) -> Option<u32>
+    requires place { place < length cores.now }
+    requires before { AreOffers catalog.now.entries (take place cores.now) force offers.now }
+    ensures { IsOfferAt catalog.now.entries (slice_index_or cores.now place None) force result }
+{
+    let first = first_equal(cores, place);
+    if first < place {
+        offers[first]
+    } else {
+        offer_at(catalog, &cores[place], force)
+    }
+}
+
+/// The offers of at most 256 cores, place by place; none where there is no core. The entries are passed over once for
+/// each of the different cores.
 pub fn offers(
     catalog: &Catalog,
     cores: &[Option<CoreFacts>],
@@ -58,8 +93,9 @@ pub fn offers(
     ensures { AreOffers catalog.now.entries cores.now force result.items }
 {
     let mut offers = ArrayVec::new();
-    for core in cores {
-        offers.push(offer_at(catalog, core, force));
+    'cores: for place in 0..cores.len() {
+        let offer = offer_in_turn(catalog, cores, offers.as_slice(), place, force);
+        offers.push(offer);
     }
     offers
 }

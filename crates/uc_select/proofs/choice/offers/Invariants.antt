@@ -2,8 +2,8 @@ use Rattle.std.proofs.Common.{◌≡◌, take, length}
 use Rattle.uc_select.specs.Offers.{AreOffers}
 use Rattle.uc_select.proofs.choice.offers.Given as goal
 
-abbrev pub invariant-loop-core : goal.invariant-loop-core
-invariant-loop-core l = record {
-  so_far : AreOffers l.catalog.entries (take l.core-index l.cores) l.force l.offers.items;
-  counts : length l.offers.items ≡ l.core-index;
+abbrev pub invariant-cores : goal.invariant-cores
+invariant-cores l = record {
+  so_far : AreOffers l.catalog.entries (take l.place l.cores) l.force l.offers.items;
+  counts : length l.offers.items ≡ l.place;
 }
