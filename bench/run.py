@@ -31,11 +31,11 @@ def make_file(name, count, total):
     return "".join(text).encode()
 
 
-def make_topology(name, cores):
-    """Writes a topology of so many cores with a thread each, no two of them alike."""
+def make_topology(name, cores, alike=False):
+    """Writes a topology of so many cores with a thread each: all alike, or no two of them."""
     with open(name, "w") as file:
         file.write("ucode-topology 1\nvendor intel\n")
-        file.writelines(f"core {c} sig 0x906ea flags 0x2 rev {c}\n" for c in range(cores))
+        file.writelines(f"core {c} sig 0x906ea flags 0x2 rev {0 if alike else c}\n" for c in range(cores))
         file.writelines(f"cpu {c} core {c}\n" for c in range(cores))
 
 
@@ -117,6 +117,10 @@ def measure(ucode, source):
     for command, wanted in ((select, selection(256, 65536)), (half_cores, selection(128, 65536)),
                             (half_entries, selection(256, 32768))):
         expect(command, b"".join(writes_of(command)), wanted)
+    for cores in (1, 256):
+        make_topology(f"alike{cores}", cores, alike=True)
+    alike, one = ([ucode, "select", name, "whole.bin"] for name in ("alike256", "alike1"))
+    expect(one, b"".join(writes_of(one)), selection(1, 65536))
     sixteen, eight = ([ucode, "list"] + ["whole.bin"] * n for n in (16, 8))
     of_files = os.path.getsize("whole.bin")
 
@@ -132,6 +136,7 @@ def measure(ucode, source):
          "about 2"),
         ("`select` for 256 cores from 65,536 updates: time, to that from 32,768",
          f"{time_ratio(select, half_entries, 5):.2f}", "about 2"),
+        ("`select` for 256 cores that are alike: time, to that for one core", f"{time_ratio(alike, one, 5):.2f}", "about 1"),
         ("`select` for 256 cores from 65,536 updates: peak memory",
          f"the file's size and {peak_above(select, of_files):.1f} MiB", "the file's size and at most 32 MiB"),
     ]
