@@ -1,7 +1,7 @@
 -- A search through the threads in ascending order, one thread at a time.
 use Rattle.std.proofs.Common.{◌≡◌, ℕ, suc, ◌+◌, ◌-◌, ◌<◌, ◌≤◌, Bool, true, false, Some, None, refl, arith}
 use Rattle.std.specs.List.{find, range_with_len}
-use Rattle.rendezvous.specs.Plan.{Plan, is_offline, is_sibling, offline_from, sibling_from}
+use Rattle.rendezvous_steps.specs.Plan.{Plan, is_offline, is_sibling, offline_from, sibling_from}
 
 find_skip : (p : ℕ → Bool) (k n m : ℕ) → n ≡ suc m → p k ≡ false → find p (range_with_len k n) ≡ find p (range_with_len (k + 1) m)
 find_skip p k n m e fails = rw (e, fails) refl

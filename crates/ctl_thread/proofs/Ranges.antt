@@ -2,18 +2,18 @@
 use Rattle.std.proofs.Common.{ℕ, zero, suc, ◌+◌, ◌-◌, ◌<◌, ◌≤◌, ◌==◌, Bool, true, false, if◌then◌else◌, nat_lt, IsTrue, IfSome, Option, Some, None, refl, arith}
 use Rattle.std.specs.List.{find, range_with_len}
 use Rattle.std.proofs.lemmas.Bool.Decides.{nat_tests}
-use Rattle.rendezvous.specs.declared.steps.Kind.{Kind}
-use Rattle.rendezvous.specs.declared.steps.Kind.TheVariants.{Online, Offline, Absent}
-use Rattle.rendezvous.specs.declared.steps.Phase.{Phase}
-use Rattle.rendezvous.specs.declared.steps.Phase.TheVariants.{Outside, Kicking, OfflineWait, Arriving, Deciding, Waiting, Reading, Beginning, Writing, Checking, Reporting, Freeing, SiblingWait, SiblingCheck, SiblingCopy, Withdrawing, Releasing, OfflineCount, OfflineHold, Leaving, Left, Halted, Withdrawn, Nothing}
-use Rattle.rendezvous.specs.declared.steps.Local.{Local}
-use Rattle.rendezvous.specs.declared.steps.How.{How}
-use Rattle.rendezvous.specs.declared.steps.How.TheVariants as how
-use Rattle.rendezvous.specs.declared.items.What.{What}
-use Rattle.rendezvous.specs.declared.items.What.TheVariants as what
-use Rattle.rendezvous.specs.Plan.{Plan, Sound, is_primary, offline_from, sibling_from, offline_count}
-use Rattle.rendezvous.specs.Words.{touched}
-use Rattle.rendezvous.specs.StepTable.{operation, operation_in, enter_operation, after, after_in, after_outside, outside_item, entered, kick_at, loop_at, go_path, drop_path, withdraw_at, by_decision, by_release, polled, wait_in, to, with_result, told, exceeds}
+use Rattle.rendezvous_steps.specs.declared.steps.Kind.{Kind}
+use Rattle.rendezvous_steps.specs.declared.steps.Kind.TheVariants.{Online, Offline, Absent}
+use Rattle.rendezvous_steps.specs.declared.steps.Phase.{Phase}
+use Rattle.rendezvous_steps.specs.declared.steps.Phase.TheVariants.{Outside, Kicking, OfflineWait, Arriving, Deciding, Waiting, Reading, Beginning, Writing, Checking, Reporting, Freeing, SiblingWait, SiblingCheck, SiblingCopy, Withdrawing, Releasing, OfflineCount, OfflineHold, Leaving, Left, Halted, Withdrawn, Nothing}
+use Rattle.rendezvous_steps.specs.declared.steps.Local.{Local}
+use Rattle.rendezvous_steps.specs.declared.steps.How.{How}
+use Rattle.rendezvous_steps.specs.declared.steps.How.TheVariants as how
+use Rattle.rendezvous_steps.specs.declared.items.What.{What}
+use Rattle.rendezvous_steps.specs.declared.items.What.TheVariants as what
+use Rattle.rendezvous_steps.specs.Plan.{Plan, Sound, is_primary, offline_from, sibling_from, offline_count}
+use Rattle.rendezvous_steps.specs.Words.{touched}
+use Rattle.rendezvous_steps.specs.StepTable.{operation, operation_in, enter_operation, after, after_in, after_outside, outside_item, entered, kick_at, loop_at, go_path, drop_path, withdraw_at, by_decision, by_release, polled, wait_in, to, with_result, told, exceeds}
 use Rattle.ctl_words.specs.Places.{is_word}
 
 below : (n m : ℕ) → n < m → IsTrue (nat_lt n m)

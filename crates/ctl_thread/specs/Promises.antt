@@ -1,12 +1,12 @@
 -- What the table promises, in the words of a load.
 use Rattle.std.specs.Prelude.{ℕ, ◌+◌, ◌==◌, ◌&&◌, ◌||◌, Bool, true, false}
-use Rattle.rendezvous.specs.declared.steps.Phase.{Phase}
-use Rattle.rendezvous.specs.declared.steps.Phase.TheVariants.{Outside, Kicking, OfflineWait, Arriving, Deciding, Waiting, Reading, Beginning, Writing, Checking, Reporting, Freeing, SiblingWait, SiblingCheck, SiblingCopy, Withdrawing, Releasing, Leaving}
-use Rattle.rendezvous.specs.declared.operations.Word.{Word}
-use Rattle.rendezvous.specs.declared.operations.Word.TheVariants as word
-use Rattle.rendezvous.specs.declared.items.What.{What}
-use Rattle.rendezvous.specs.declared.items.What.TheVariants as what
-use Rattle.rendezvous.specs.Plan.{Plan}
+use Rattle.rendezvous_steps.specs.declared.steps.Phase.{Phase}
+use Rattle.rendezvous_steps.specs.declared.steps.Phase.TheVariants.{Outside, Kicking, OfflineWait, Arriving, Deciding, Waiting, Reading, Beginning, Writing, Checking, Reporting, Freeing, SiblingWait, SiblingCheck, SiblingCopy, Withdrawing, Releasing, Leaving}
+use Rattle.rendezvous_steps.specs.declared.operations.Word.{Word}
+use Rattle.rendezvous_steps.specs.declared.operations.Word.TheVariants as word
+use Rattle.rendezvous_steps.specs.declared.items.What.{What}
+use Rattle.rendezvous_steps.specs.declared.items.What.TheVariants as what
+use Rattle.rendezvous_steps.specs.Plan.{Plan}
 
 -- the phases before the decision
 abbrev pub is_gathering : Phase → Bool

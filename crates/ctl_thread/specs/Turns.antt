@@ -1,8 +1,8 @@
 -- A step that is being taken.
-use Rattle.rendezvous.specs.declared.steps.Phase.{Phase}
-use Rattle.rendezvous.specs.declared.steps.Local.{Local}
-use Rattle.rendezvous.specs.declared.items.What.{What}
-use Rattle.rendezvous.specs.StepTable.{after_in}
+use Rattle.rendezvous_steps.specs.declared.steps.Phase.{Phase}
+use Rattle.rendezvous_steps.specs.declared.steps.Local.{Local}
+use Rattle.rendezvous_steps.specs.declared.items.What.{What}
+use Rattle.rendezvous_steps.specs.StepTable.{after_in}
 use Rattle.ctl_words.specs.Plans.{plan_of}
 use Rattle.ctl_thread.specs.declared.turns.Turn.{Turn}
 

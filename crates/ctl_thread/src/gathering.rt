@@ -1,15 +1,15 @@
 //! The rows of the table up to the decision.
 
 ghost use Rattle.std.specs.Prelude.{◌≡◌};
-ghost use Rattle.rendezvous.specs.StepTable as table;
-ghost use Rattle.rendezvous.specs.declared.steps.Phase.TheVariants.{Outside, Kicking, OfflineWait, Arriving, Deciding, Waiting};
+ghost use Rattle.rendezvous_steps.specs.StepTable as table;
+ghost use Rattle.rendezvous_steps.specs.declared.steps.Phase.TheVariants.{Outside, Kicking, OfflineWait, Arriving, Deciding, Waiting};
 ghost use Rattle.ctl_words.specs.Plans.{plan_of, IsSound};
 
 use crate::moves::{drop_path, go_path, kick_at, loop_at, polled, to, wait_in};
 use crate::searches::first_offline;
 use crate::turns::Turn;
 use ctl_words::Plan;
-use rendezvous::{How, Kind, Local, Phase, What};
+use rendezvous_steps::{How, Kind, Local, Phase, What};
 
 impl Turn<'_> {
     ghost use Rattle.ctl_thread.specs.Turns.{row_of};

@@ -1,15 +1,15 @@
 //! What the table promises, in the words of a load. Each law is the contract of a function that does nothing.
 
 ghost use Rattle.std.specs.Prelude.{◌≡◌, ◌≢◌, ℕ, ◌&&◌, ◌||◌, ◌<◌, false, not, IfSome, IsTrue};
-ghost use Rattle.rendezvous.specs.declared.steps.Local.{Local};
-ghost use Rattle.rendezvous.specs.declared.steps.Phase.TheVariants.{Writing};
-ghost use Rattle.rendezvous.specs.declared.steps.How.{How};
-ghost use Rattle.rendezvous.specs.declared.steps.How.TheVariants.{Step};
-ghost use Rattle.rendezvous.specs.declared.operations.Word.TheVariants.{Decide};
-ghost use Rattle.rendezvous.specs.Plan.{Plan, Sound, is_primary};
+ghost use Rattle.rendezvous_steps.specs.declared.steps.Local.{Local};
+ghost use Rattle.rendezvous_steps.specs.declared.steps.Phase.TheVariants.{Writing};
+ghost use Rattle.rendezvous_steps.specs.declared.steps.How.{How};
+ghost use Rattle.rendezvous_steps.specs.declared.steps.How.TheVariants.{Step};
+ghost use Rattle.rendezvous_steps.specs.declared.operations.Word.TheVariants.{Decide};
+ghost use Rattle.rendezvous_steps.specs.Plan.{Plan, Sound, is_primary};
 ghost use Rattle.ctl_words.specs.Places.{is_word};
-ghost use Rattle.rendezvous.specs.Words.{touched, written};
-ghost use Rattle.rendezvous.specs.StepTable.{operation, after};
+ghost use Rattle.rendezvous_steps.specs.Words.{touched, written};
+ghost use Rattle.rendezvous_steps.specs.StepTable.{operation, after};
 ghost use Rattle.ctl_thread.specs.Promises.{is_gathering, is_going, is_leaving, is_writing, may_touch, OnDecide, OnRevision, is_decision_of, gives_up};
 
 /// A thread touches the counts and the decision, its own words and those of its group. It touches another thread's

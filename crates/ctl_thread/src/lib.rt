@@ -1,7 +1,7 @@
 //! One thread of a rendezvous: the operation that it does next, and what comes of it. Nothing here takes memory, and
 //! no call waits. After Linux 6.7 arch/x86/kernel/cpu/microcode/core.c (`load_primary`, `load_secondary`).
 //!
-//! `opening`, `next` and `after` are the table of `rendezvous`, row by row. What the table promises in the words of a
+//! `opening`, `next` and `after` are the table of `rendezvous_steps`, row by row. What the table promises in the words of a
 //! load stands in `laws`.
 #![tactic(auto)]
 
@@ -16,4 +16,4 @@ mod turns;
 
 pub use next_step::{next, opening};
 pub use outcome::after;
-pub use rendezvous::{How, Local, Phase, ThreadResult, What};
+pub use rendezvous_steps::{How, Local, Phase, ThreadResult, What};

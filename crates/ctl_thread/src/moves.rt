@@ -1,12 +1,12 @@
 //! Where a thread goes next.
 
 ghost use Rattle.std.specs.Prelude.{◌≡◌, ℕ, Option};
-ghost use Rattle.rendezvous.specs.StepTable as table;
+ghost use Rattle.rendezvous_steps.specs.StepTable as table;
 ghost use Rattle.ctl_words.specs.Plans.{plan_of};
 
 use crate::searches::first_offline;
 use ctl_words::Plan;
-use rendezvous::{Local, Phase, ThreadResult};
+use rendezvous_steps::{Local, Phase, ThreadResult};
 
 /// On to a phase.
 pub fn to(local: &Local, phase: Phase) -> Local

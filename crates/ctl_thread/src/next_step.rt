@@ -1,15 +1,15 @@
 //! What a thread does next.
 
 ghost use Rattle.std.specs.Prelude.{◌≡◌, ◌<◌, ◌↔◌, IsNone, IsTrue};
-ghost use Rattle.rendezvous.specs.StepTable.{opening, operation, is_last, result_of, write_of, release_of};
-ghost use Rattle.rendezvous.specs.Plan.{offer_or_rev0};
+ghost use Rattle.rendezvous_steps.specs.StepTable.{opening, operation, is_last, result_of, write_of, release_of};
+ghost use Rattle.rendezvous_steps.specs.Plan.{offer_or_rev0};
 ghost use Rattle.ctl_words.specs.Plans.{plan_of, IsSound};
 
 use ctl_words::Plan;
-use rendezvous::{How, Kind, Local, Op, Phase, ThreadResult, Word};
+use rendezvous_steps::{How, Kind, Local, Op, Phase, ThreadResult, Word};
 
 /// Where a thread stands when a rendezvous begins.
-#[tactic(auto, unfolding(rendezvous::specs::StepTable::opening))]
+#[tactic(auto, unfolding(rendezvous_steps::specs::StepTable::opening))]
 pub fn opening(plan: &Plan, thread: u16) -> Local
     requires sound { IsSound plan.now }
     requires in_range { thread < plan.now.threads }
@@ -29,7 +29,7 @@ pub fn opening(plan: &Plan, thread: u16) -> Local
 }
 
 /// The thread's next operation. It has none exactly in the phases Left, Halted, Withdrawn and Nothing.
-#[tactic(auto, unfolding(rendezvous::specs::StepTable::operation))]
+#[tactic(auto, unfolding(rendezvous_steps::specs::StepTable::operation))]
 pub fn next(plan: &Plan, thread: u16, local: &Local, how: How) -> Option<Op>
     requires sound { IsSound plan.now }
     requires in_range { thread < plan.now.threads }

@@ -1,15 +1,15 @@
 //! What comes of a step.
 
 ghost use Rattle.std.specs.Prelude.{◌≡◌, ◌<◌, IsSome};
-ghost use Rattle.rendezvous.specs.StepTable.{after, operation};
+ghost use Rattle.rendezvous_steps.specs.StepTable.{after, operation};
 ghost use Rattle.ctl_words.specs.Plans.{plan_of, IsSound};
 
 use crate::turns::Turn;
 use ctl_words::Plan;
-use rendezvous::{How, Local, Phase, What};
+use rendezvous_steps::{How, Local, Phase, What};
 
 /// The thread's next state and the item, where its operation found `found` in its word.
-#[tactic(auto, unfolding(rendezvous::specs::StepTable::after))]
+#[tactic(auto, unfolding(rendezvous_steps::specs::StepTable::after))]
 pub fn after(plan: &Plan, thread: u16, local: &Local, how: How, found: u64) -> (Local, What)
     requires sound { IsSound plan.now }
     requires in_range { thread < plan.now.threads }

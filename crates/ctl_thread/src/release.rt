@@ -1,10 +1,10 @@
 //! The rows of the table after the decision: a primary's write and report, its siblings, and the kicks taken back.
 
 ghost use Rattle.std.specs.Prelude.{◌≡◌, ◌==◌};
-ghost use Rattle.rendezvous.specs.StepTable as table;
-ghost use Rattle.rendezvous.specs.Plan.{offer_or_rev0};
-ghost use Rattle.rendezvous.specs.StepTable.{exceeds};
-ghost use Rattle.rendezvous.specs.declared.steps.Phase.TheVariants.{Reading, Beginning, Writing, Checking, Reporting, Freeing, SiblingWait, SiblingCheck, SiblingCopy, Withdrawing, Releasing, OfflineCount, OfflineHold, Leaving};
+ghost use Rattle.rendezvous_steps.specs.StepTable as table;
+ghost use Rattle.rendezvous_steps.specs.Plan.{offer_or_rev0};
+ghost use Rattle.rendezvous_steps.specs.StepTable.{exceeds};
+ghost use Rattle.rendezvous_steps.specs.declared.steps.Phase.TheVariants.{Reading, Beginning, Writing, Checking, Reporting, Freeing, SiblingWait, SiblingCheck, SiblingCopy, Withdrawing, Releasing, OfflineCount, OfflineHold, Leaving};
 ghost use Rattle.ctl_words.specs.Plans.{plan_of, IsSound};
 
 use crate::moves::{free_at, polled, to, wait_in, with_result, withdraw_at};
@@ -12,7 +12,7 @@ use crate::next_step::{offer_or_rev0, told, write_of};
 use crate::searches::{first_offline, first_sibling};
 use crate::turns::Turn;
 use ctl_words::Plan;
-use rendezvous::{How, Local, Phase, ThreadResult, What};
+use rendezvous_steps::{How, Local, Phase, ThreadResult, What};
 
 impl Turn<'_> {
     ghost use Rattle.ctl_thread.specs.Turns.{row_of};

@@ -1,7 +1,7 @@
 //! Threads in ascending order.
 
 ghost use Rattle.std.specs.Prelude.{◌≡◌, ℕ, Option};
-ghost use Rattle.rendezvous.specs.Plan.{is_sibling, offline_from, sibling_from};
+ghost use Rattle.rendezvous_steps.specs.Plan.{is_sibling, offline_from, sibling_from};
 ghost use Rattle.ctl_words.specs.Plans.{plan_of, IsSound};
 
 use ctl_words::Plan;

@@ -1,7 +1,7 @@
 //! A step that is being taken.
 
 use ctl_words::Plan;
-use rendezvous::{How, Local};
+use rendezvous_steps::{How, Local};
 
 /// What the outcome of one step goes by.
 #[derive(Clone, Copy)]

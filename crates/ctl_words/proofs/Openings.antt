@@ -1,10 +1,10 @@
 -- The lists of a plan's words as they are made.
 use Rattle.std.proofs.Common.{◌≡◌, ℕ, slice_index, replicate, refl, zero, suc}
 use Rattle.std.proofs.Math.Path.{fun_ext}
-use Rattle.rendezvous.specs.declared.operations.Word.{Word}
-use Rattle.rendezvous.specs.declared.operations.Word.TheVariants.{Arrive, OffIn, Decide, Mode, Ctrl, Nmi, Rev, Res}
-use Rattle.rendezvous.specs.Plan.{Plan, online_count}
-use Rattle.rendezvous.specs.Words.{opening_words}
+use Rattle.rendezvous_steps.specs.declared.operations.Word.{Word}
+use Rattle.rendezvous_steps.specs.declared.operations.Word.TheVariants.{Arrive, OffIn, Decide, Mode, Ctrl, Nmi, Rev, Res}
+use Rattle.rendezvous_steps.specs.Plan.{Plan, online_count}
+use Rattle.rendezvous_steps.specs.Words.{opening_words}
 use Rattle.ctl_words.specs.Lists.{Lists, word_of}
 
 pub slice_index-zeros : (n k : ℕ) → slice_index (replicate n 0) k ≡ 0

@@ -1,6 +1,6 @@
 -- What a sound plan is, put together from what is tested of it.
 use Rattle.std.proofs.Common.{◌≡◌}
-use Rattle.rendezvous.specs.declared.steps.Kind.TheVariants.{Online}
+use Rattle.rendezvous_steps.specs.declared.steps.Kind.TheVariants.{Online}
 use Rattle.ctl_words.specs.declared.plans.Plan.{Plan as Tables}
 use Rattle.ctl_words.specs.Plans.{plan_of, TablesFit, ThreadsFit, GroupsFit, IsSound}
 

@@ -2,9 +2,9 @@
 use Rattle.std.proofs.Common.{◌≡◌, ℕ, ◌≤◌, length, None, Option, refl, ap, ◌∙◌, arith}
 use Rattle.std.proofs.lemmas.Option.{slice_get_past}
 use Rattle.std.specs.Prelude.{slice_get, unwrap_or}
-use Rattle.rendezvous.specs.declared.steps.Kind.{Kind}
-use Rattle.rendezvous.specs.declared.steps.Kind.TheVariants.{Absent}
-use Rattle.rendezvous.specs.Padded.{Padded}
+use Rattle.rendezvous_steps.specs.declared.steps.Kind.{Kind}
+use Rattle.rendezvous_steps.specs.declared.steps.Kind.TheVariants.{Absent}
+use Rattle.rendezvous_steps.specs.Padded.{Padded}
 use Rattle.ctl_words.specs.declared.plans.Plan.{Plan as Tables}
 use Rattle.ctl_words.specs.Plans.{plan_of, IsSound}
 

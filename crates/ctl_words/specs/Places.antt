@@ -1,9 +1,9 @@
 -- The words of a plan, numbered for a table: with T threads and G groups Arrive, OffIn and Decide, then T words of each
 -- of Mode, Ctrl and Nmi, and then G words of each of Rev and Res.
 use Rattle.std.specs.Prelude.{ℕ, ◌+◌, ◌*◌, Bool, true, nat_lt}
-use Rattle.rendezvous.specs.declared.operations.Word.{Word}
-use Rattle.rendezvous.specs.declared.operations.Word.TheVariants.{Arrive, OffIn, Decide, Mode, Ctrl, Nmi, Rev, Res}
-use Rattle.rendezvous.specs.Plan.{Plan}
+use Rattle.rendezvous_steps.specs.declared.operations.Word.{Word}
+use Rattle.rendezvous_steps.specs.declared.operations.Word.TheVariants.{Arrive, OffIn, Decide, Mode, Ctrl, Nmi, Rev, Res}
+use Rattle.rendezvous_steps.specs.Plan.{Plan}
 
 -- w is one of the plan's words
 abbrev pub is_word : Plan → Word → Bool

@@ -1,7 +1,7 @@
 -- A plan's tables, seen as functions of thread and group numbers, and when a plan is sound.
 use Rattle.std.specs.Prelude.{◌≡◌, ◌≢◌, ℕ, ◌<◌, ◌≤◌, false, length, Some, None, slice_get, unwrap_or}
-use Rattle.rendezvous.specs.declared.steps.Kind.TheVariants.{Online, Absent}
-use Rattle.rendezvous.specs.Plan.{Plan, Sound}
+use Rattle.rendezvous_steps.specs.declared.steps.Kind.TheVariants.{Online, Absent}
+use Rattle.rendezvous_steps.specs.Plan.{Plan, Sound}
 use Rattle.ctl_words.specs.declared.plans.Plan.{Plan as Tables}
 
 abbrev pub plan_of : Tables → Plan

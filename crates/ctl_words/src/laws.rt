@@ -1,5 +1,5 @@
 //! A law of plans: the contract of a function that does nothing.
-ghost use Rattle.rendezvous.specs.Padded.{Padded};
+ghost use Rattle.rendezvous_steps.specs.Padded.{Padded};
 ghost use Rattle.ctl_words.specs.declared.plans.Plan.{Plan as Tables};
 ghost use Rattle.ctl_words.specs.Plans.{plan_of, IsSound};
 

@@ -12,5 +12,5 @@ mod shared;
 pub use laws::tables_end;
 pub use plain::PlainWords;
 pub use plans::Plan;
-pub use rendezvous::{Kind, Op, Word};
+pub use rendezvous_steps::{Kind, Op, Word};
 pub use shared::Words;

@@ -2,14 +2,14 @@
 
 ghost use Rattle.std.specs.Prelude.{◌≡◌, ◌+◌, ◌*◌, IfOk, IsTrue, replicate, slice_index};
 ghost use Rattle.std.specs.Prelude.{◌<◌};
-ghost use Rattle.rendezvous.specs.Words.{touched, words_after, opening_words};
+ghost use Rattle.rendezvous_steps.specs.Words.{touched, words_after, opening_words};
 ghost use Rattle.ctl_words.specs.Plans.{plan_of, IsSound};
 ghost use Rattle.ctl_words.specs.Places.{is_word};
 ghost use Rattle.ctl_words.specs.Lists.{has_word, word_of, with_word};
 
 use crate::plans::Plan;
 use crate::shared::Words;
-use rendezvous::{Op, Word};
+use rendezvous_steps::{Op, Word};
 use std::alloc::Global;
 use std::marker::Model;
 use uc_bytes::NoMemory;

@@ -1,14 +1,14 @@
 //! The plan of a load.
 
 ghost use Rattle.std.specs.Prelude.{◌≡◌, ℕ, ◌+◌, ◌*◌, ◌<◌, ◌↔◌, length, IsTrue};
-ghost use Rattle.rendezvous.specs.declared.steps.Kind.TheVariants.{Online};
-ghost use Rattle.rendezvous.specs.Plan.{online_count, offline_count};
-ghost use Rattle.rendezvous.specs.declared.operations.Word.{Word as WordName};
+ghost use Rattle.rendezvous_steps.specs.declared.steps.Kind.TheVariants.{Online};
+ghost use Rattle.rendezvous_steps.specs.Plan.{online_count, offline_count};
+ghost use Rattle.rendezvous_steps.specs.declared.operations.Word.{Word as WordName};
 ghost use Rattle.ctl_words.specs.Plans.{plan_of, TablesFit, ThreadFits, ThreadsFit, OfferFits, GroupFits, GroupsFit, IsSound};
 ghost use Rattle.ctl_words.specs.Places.{is_word, place_of, word_count};
 
 use arrayvec::ArrayVec;
-use rendezvous::{Kind, Word};
+use rendezvous_steps::{Kind, Word};
 
 /// What a load sets out with. `kind` and `group` go by thread, the tables after them by group.
 #[derive(Drop)]

@@ -1,10 +1,10 @@
 //! Words that threads share.
 
 ghost use Rattle.std.specs.Prelude.{◌≡◌, ℕ, Bool, IsTrue};
-ghost use Rattle.rendezvous.specs.declared.operations.Word.{Word as WordName};
-ghost use Rattle.rendezvous.specs.Words.{touched, words_after};
+ghost use Rattle.rendezvous_steps.specs.declared.operations.Word.{Word as WordName};
+ghost use Rattle.rendezvous_steps.specs.Words.{touched, words_after};
 
-use rendezvous::{Op, Word};
+use rendezvous_steps::{Op, Word};
 
 /// A set of control words, on which one operation is done at a time.
 pub trait Words {

@@ -7,16 +7,16 @@ use Rattle.std.proofs.lemmas.Bool.{cases_lt}
 use Rattle.std.proofs.lemmas.Option.{unwrap_or-slice_get, slice_get_past}
 use Rattle.std.proofs.lemmas.List.{length-replicate}
 use Rattle.std.proofs.lemmas.List.FromFn.{get_or-map-range_with_len, length-map-range_with_len}
-use Rattle.rendezvous.specs.declared.steps.Local.{Local}
-use Rattle.rendezvous.specs.declared.operations.Word.{Word}
-use Rattle.rendezvous.specs.Plan.{Plan, threads_from}
-use Rattle.rendezvous.specs.declared.steps.How.{How}
-use Rattle.rendezvous.specs.declared.operations.Op.{Op}
-use Rattle.rendezvous.specs.StepTable.{operation, opening}
-use Rattle.rendezvous.specs.declared.steps.How.TheVariants.{Step, Nmi}
-use Rattle.rendezvous.specs.declared.steps.Kind.TheVariants.{Online, Offline, Absent}
-use Rattle.rendezvous.specs.Words.{opening_words}
-use Rattle.rendezvous.specs.Events.{Running, opening_running, put, performs, steps, runs, runs_by, nmi_comes, nmi_by, nmi_offline, runs_ordinary, latches, idles, is_outside, left_with_latch, shows_left, shows_halted, shows_withdrawn, shows_held}
+use Rattle.rendezvous_steps.specs.declared.steps.Local.{Local}
+use Rattle.rendezvous_steps.specs.declared.operations.Word.{Word}
+use Rattle.rendezvous_steps.specs.Plan.{Plan, threads_from}
+use Rattle.rendezvous_steps.specs.declared.steps.How.{How}
+use Rattle.rendezvous_steps.specs.declared.operations.Op.{Op}
+use Rattle.rendezvous_steps.specs.StepTable.{operation, opening}
+use Rattle.rendezvous_steps.specs.declared.steps.How.TheVariants.{Step, Nmi}
+use Rattle.rendezvous_steps.specs.declared.steps.Kind.TheVariants.{Online, Offline, Absent}
+use Rattle.rendezvous_steps.specs.Words.{opening_words}
+use Rattle.rendezvous_steps.specs.Events.{Running, opening_running, put, performs, steps, runs, runs_by, nmi_comes, nmi_by, nmi_offline, runs_ordinary, latches, idles, is_outside, left_with_latch, shows_left, shows_halted, shows_withdrawn, shows_held}
 use Rattle.ctl_words.specs.Lists.{Lists, has_word, word_of}
 use Rattle.ctl_words.specs.Places.{is_word}
 use Rattle.ctl_words.specs.declared.plans.Plan.{Plan as Tables}

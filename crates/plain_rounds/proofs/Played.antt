@@ -1,10 +1,10 @@
 -- The items of a schedule, event by event.
 use Rattle.std.proofs.Common.{◌≡◌, ℕ, ◌+◌, ◌<◌, ◌≤◌, true, false, List, [], ◌∷◌, ◌++◌, length, get_or, drop, refl, sym, ap, ◌∙◌, append_assoc}
 use Rattle.std.proofs.lemmas.List.{at_drop_more, at_drop_all}
-use Rattle.rendezvous.specs.declared.items.Event.{Event}
-use Rattle.rendezvous.specs.declared.items.Item.{Item}
-use Rattle.rendezvous.specs.Plan.{Plan}
-use Rattle.rendezvous.specs.Events.{Running, happens}
+use Rattle.rendezvous_steps.specs.declared.items.Event.{Event}
+use Rattle.rendezvous_steps.specs.declared.items.Item.{Item}
+use Rattle.rendezvous_steps.specs.Plan.{Plan}
+use Rattle.rendezvous_steps.specs.Events.{Running, happens}
 use Rattle.plain_rounds.specs.State.{thread_of, has_unfinished, items_from}
 
 -- where no thread is unfinished, no item comes

@@ -1,14 +1,14 @@
 -- A plain rendezvous, seen as its lists, and the state of the definition that they stand for.
 use Rattle.std.specs.Prelude.{◌≡◌, ℕ, ◌<◌, Bool, false, not, if◌then◌else◌, List, [], ◌∷◌, length, slice_get, unwrap_or}
 use Rattle.std.specs.List.{list_any}
-use Rattle.rendezvous.specs.declared.steps.Phase.TheVariants.{Nothing}
-use Rattle.rendezvous.specs.declared.steps.Local.{Local}
-use Rattle.rendezvous.specs.declared.operations.Word.{Word}
-use Rattle.rendezvous.specs.declared.items.Event.{Event}
-use Rattle.rendezvous.specs.declared.items.Event.TheVariants.{Step, Timeout, Nmi, Run}
-use Rattle.rendezvous.specs.declared.items.Item.{Item}
-use Rattle.rendezvous.specs.Plan.{Plan, threads_from}
-use Rattle.rendezvous.specs.Events.{Running, happens, shows_finished, opening_running}
+use Rattle.rendezvous_steps.specs.declared.steps.Phase.TheVariants.{Nothing}
+use Rattle.rendezvous_steps.specs.declared.steps.Local.{Local}
+use Rattle.rendezvous_steps.specs.declared.operations.Word.{Word}
+use Rattle.rendezvous_steps.specs.declared.items.Event.{Event}
+use Rattle.rendezvous_steps.specs.declared.items.Event.TheVariants.{Step, Timeout, Nmi, Run}
+use Rattle.rendezvous_steps.specs.declared.items.Item.{Item}
+use Rattle.rendezvous_steps.specs.Plan.{Plan, threads_from}
+use Rattle.rendezvous_steps.specs.Events.{Running, happens, shows_finished, opening_running}
 use Rattle.ctl_words.specs.Lists.{Lists, has_word, word_of}
 use Rattle.ctl_words.specs.Places.{is_word}
 

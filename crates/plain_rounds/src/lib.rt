@@ -1,4 +1,4 @@
-//! A rendezvous run by one thread, event by event: the plain program of the definition `happens` of `rendezvous`. It is
+//! A rendezvous run by one thread, event by event: the plain program of the definition `happens` of `rendezvous_steps`. It is
 //! written to be read beside the definition, and tests hold it against worked schedules.
 #![tactic(auto)]
 

@@ -1,19 +1,19 @@
 //! The state between two events, and one event.
 
 ghost use Rattle.std.specs.Prelude.{◌≡◌, ◌<◌, ◌||◌, false, map, length, replicate, slice_set, IfOk, IsTrue, Some, None};
-ghost use Rattle.rendezvous.specs.declared.operations.Word.TheVariants.{Mode, Nmi};
-ghost use Rattle.rendezvous.specs.declared.steps.Kind.TheVariants.{Online, Offline};
-ghost use Rattle.rendezvous.specs.Plan.{threads_from};
-ghost use Rattle.rendezvous.specs.Events.{happens, performs, steps, runs, runs_by, nmi_comes, nmi_by, nmi_offline, runs_ordinary, latches, opening_running, left_with_latch, is_outside, is_inside, shows_left, shows_halted, shows_withdrawn, shows_held, shows_finished};
-ghost use Rattle.rendezvous.specs.StepTable.{operation, opening};
-ghost use Rattle.rendezvous.specs.Words.{touched, words_after};
+ghost use Rattle.rendezvous_steps.specs.declared.operations.Word.TheVariants.{Mode, Nmi};
+ghost use Rattle.rendezvous_steps.specs.declared.steps.Kind.TheVariants.{Online, Offline};
+ghost use Rattle.rendezvous_steps.specs.Plan.{threads_from};
+ghost use Rattle.rendezvous_steps.specs.Events.{happens, performs, steps, runs, runs_by, nmi_comes, nmi_by, nmi_offline, runs_ordinary, latches, opening_running, left_with_latch, is_outside, is_inside, shows_left, shows_halted, shows_withdrawn, shows_held, shows_finished};
+ghost use Rattle.rendezvous_steps.specs.StepTable.{operation, opening};
+ghost use Rattle.rendezvous_steps.specs.Words.{touched, words_after};
 ghost use Rattle.ctl_words.specs.Lists.{has_word, word_of};
 ghost use Rattle.ctl_words.specs.Plans.{plan_of, IsSound};
 ghost use Rattle.plain_rounds.specs.State.{running_of, Fits, thread_of, has_unfinished};
 
 use ctl_thread::{after, next, opening};
 use ctl_words::{PlainWords, Plan, Words};
-use rendezvous::{Event, How, Item, Kind, Local, Op, Phase, What, Word};
+use rendezvous_steps::{Event, How, Item, Kind, Local, Op, Phase, What, Word};
 use std::alloc::Global;
 use std::marker::Model;
 use uc_bytes::NoMemory;
@@ -66,7 +66,7 @@ impl Rounds {
     }
 
     /// One event, by the definition `happens`.
-    #[tactic(auto, unfolding(rendezvous::specs::Events::happens))]
+    #[tactic(auto, unfolding(rendezvous_steps::specs::Events::happens))]
     pub fn event(&mut self, plan: &Plan, event: Event) -> Item
         requires sound { IsSound plan.now }
         requires fits { Fits (plan_of plan.now) self.old }

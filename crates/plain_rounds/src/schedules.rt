@@ -6,7 +6,7 @@ ghost use Rattle.plain_rounds.specs.State.{thread_of, items_of};
 
 use crate::rounds::Rounds;
 use ctl_words::Plan;
-use rendezvous::{Event, Item};
+use rendezvous_steps::{Event, Item};
 use std::alloc::Global;
 use uc_bytes::NoMemory;
 

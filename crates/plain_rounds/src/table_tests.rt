@@ -2,7 +2,7 @@
 
 use crate::tests::one_core;
 use ctl_thread::{after, next};
-use rendezvous::{How, Kind, Local, Op, Phase, ThreadResult, What, Word};
+use rendezvous_steps::{How, Kind, Local, Op, Phase, ThreadResult, What, Word};
 use std::test::Fail;
 
 /// A thread's phase, `at` and `mine`; how the step comes about and what its word holds; the operation, and what comes of

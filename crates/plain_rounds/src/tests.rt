@@ -3,7 +3,7 @@
 use crate::{are_in_range, run};
 use arrayvec::ArrayVec;
 use ctl_words::Plan;
-use rendezvous::{Event, Kind, ThreadResult, What};
+use rendezvous_steps::{Event, Kind, ThreadResult, What};
 use std::alloc::Global;
 use std::process::Abort;
 use std::test::Fail;

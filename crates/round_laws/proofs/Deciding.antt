@@ -1,22 +1,22 @@
 -- The thread that arrived last decides: it goes, or finds that another dropped.
 use Rattle.std.proofs.Common.{◌≡◌, ◌≢◌, ℕ, Bool, true, ◌&&◌, ◌==◌, if◌then◌else◌, refl, ap, ◌∙◌, subst, arith, inl, inr}
-use Rattle.rendezvous.specs.declared.steps.Phase.TheVariants as phase
-use Rattle.rendezvous.specs.declared.steps.How.{How}
-use Rattle.rendezvous.specs.declared.steps.How.TheVariants as how
-use Rattle.rendezvous.specs.declared.operations.Word.TheVariants as word
-use Rattle.rendezvous.specs.declared.operations.Op.TheVariants.{Cas}
-use Rattle.rendezvous.specs.declared.items.What.TheVariants as what
-use Rattle.rendezvous.specs.Plan.{Plan, Sound}
-use Rattle.rendezvous.specs.Padded.{Padded}
-use Rattle.rendezvous.specs.Words.{families}
-use Rattle.rendezvous.specs.StepTable.{operation, operation_in, after, after_in, drop_path, go_path}
-use Rattle.rendezvous.specs.Events.{Running, steps}
-use Rattle.rendezvous.specs.Facets.{is_deciding}
-use Rattle.rendezvous.specs.Round.{State}
-use Rattle.rendezvous.specs.RoundItems.{Goes}
-use Rattle.rendezvous.specs.RoundStep.{Round}
-use Rattle.rendezvous.specs.Shown.{stage_of}
-use Rattle.rendezvous.specs.Rule.{OnlineOk, is_passed}
+use Rattle.rendezvous_steps.specs.declared.steps.Phase.TheVariants as phase
+use Rattle.rendezvous_steps.specs.declared.steps.How.{How}
+use Rattle.rendezvous_steps.specs.declared.steps.How.TheVariants as how
+use Rattle.rendezvous_steps.specs.declared.operations.Word.TheVariants as word
+use Rattle.rendezvous_steps.specs.declared.operations.Op.TheVariants.{Cas}
+use Rattle.rendezvous_steps.specs.declared.items.What.TheVariants as what
+use Rattle.rendezvous_steps.specs.Plan.{Plan, Sound}
+use Rattle.rendezvous_steps.specs.Padded.{Padded}
+use Rattle.rendezvous_steps.specs.Words.{families}
+use Rattle.rendezvous_steps.specs.StepTable.{operation, operation_in, after, after_in, drop_path, go_path}
+use Rattle.rendezvous_steps.specs.Events.{Running, steps}
+use Rattle.rendezvous_rule.specs.Facets.{is_deciding}
+use Rattle.rendezvous_model.specs.Round.{State}
+use Rattle.rendezvous_model.specs.RoundItems.{Goes}
+use Rattle.rendezvous_model.specs.RoundStep.{Round}
+use Rattle.rendezvous_rule.specs.Shown.{stage_of}
+use Rattle.rendezvous_rule.specs.Rule.{OnlineOk, is_passed}
 use Rattle.round_laws.specs.OneStep.{Ruled, Kept, KeepsTheRule, event_of}
 use Rattle.round_laws.proofs.Count.{same_or_not}
 use Rattle.round_laws.proofs.Paths.{quiet, plain_deciding, go_turned, drop_turned}

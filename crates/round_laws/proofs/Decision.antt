@@ -1,20 +1,20 @@
 -- A step that touches the decision alone: what the others see of the thread stays as it was.
 use Rattle.std.proofs.Common.{◌≡◌, ◌≢◌, ℕ, ◌+◌, ◌-◌, ◌<◌, ◌≤◌, Bool, true, false, ◌&&◌, ◌==◌, refl, ap, sym, ◌∙◌, subst, arith, inl, inr, true≢false}
 use Rattle.std.proofs.lemmas.Bool.Decides.{nat_tests}
-use Rattle.rendezvous.specs.declared.steps.Kind.{Kind}
-use Rattle.rendezvous.specs.declared.steps.Kind.TheVariants.{Online, Offline, Absent}
-use Rattle.rendezvous.specs.declared.steps.Phase.{Phase}
-use Rattle.rendezvous.specs.declared.steps.Phase.TheVariants as phase
-use Rattle.rendezvous.specs.declared.steps.Local.{Local}
-use Rattle.rendezvous.specs.Plan.{Plan, Sound, online_count, offline_count}
-use Rattle.rendezvous.specs.Words.{Families}
-use Rattle.rendezvous.specs.Events.{put}
-use Rattle.rendezvous.specs.Facets.{past_arriving, has_come, has_counted, is_deciding, is_writing, is_halted, past_writing, past_reporting, past_freeing, has_kicked, has_withdrawn, has_released}
-use Rattle.rendezvous.specs.Kinds.{names_offline}
-use Rattle.rendezvous.specs.Awaited.{awaited, counted}
-use Rattle.rendezvous.specs.Round.{nobody}
-use Rattle.rendezvous.specs.Shown.{shown, stage_of, arrived_of}
-use Rattle.rendezvous.specs.Rule.{Rule, OnlineOk, mode_of, ctrl_of, rev_of, res_of, is_passed, is_released}
+use Rattle.rendezvous_steps.specs.declared.steps.Kind.{Kind}
+use Rattle.rendezvous_steps.specs.declared.steps.Kind.TheVariants.{Online, Offline, Absent}
+use Rattle.rendezvous_steps.specs.declared.steps.Phase.{Phase}
+use Rattle.rendezvous_steps.specs.declared.steps.Phase.TheVariants as phase
+use Rattle.rendezvous_steps.specs.declared.steps.Local.{Local}
+use Rattle.rendezvous_steps.specs.Plan.{Plan, Sound, online_count, offline_count}
+use Rattle.rendezvous_steps.specs.Words.{Families}
+use Rattle.rendezvous_steps.specs.Events.{put}
+use Rattle.rendezvous_rule.specs.Facets.{past_arriving, has_come, has_counted, is_deciding, is_writing, is_halted, past_writing, past_reporting, past_freeing, has_kicked, has_withdrawn, has_released}
+use Rattle.rendezvous_rule.specs.Kinds.{names_offline}
+use Rattle.rendezvous_rule.specs.Awaited.{awaited, counted}
+use Rattle.rendezvous_model.specs.Round.{nobody}
+use Rattle.rendezvous_rule.specs.Shown.{shown, stage_of, arrived_of}
+use Rattle.rendezvous_rule.specs.Rule.{Rule, OnlineOk, mode_of, ctrl_of, rev_of, res_of, is_passed, is_released}
 use Rattle.round_laws.proofs.Count.{same_or_not}
 use Rattle.round_laws.proofs.Frame.{put_same, put_other, facet, facet_at, zero_facet, another_kind, passed_kept, released_kept, nmi_kept, awaited_kept, counted_kept, offline_kept}
 use Rattle.round_laws.proofs.Seen.{same_state}

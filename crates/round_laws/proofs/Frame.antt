@@ -1,14 +1,14 @@
 -- What a change of one thread's state leaves as it was, for those who read it by facets.
 use Rattle.std.proofs.Common.{◌≡◌, ◌≢◌, ℕ, ◌-◌, Bool, true, false, ◌&&◌, ◌==◌, refl, ap, sym, ◌∙◌, subst, arith, inl, inr}
 use Rattle.std.proofs.lemmas.Bool.Decides.{nat_tests}
-use Rattle.rendezvous.specs.declared.steps.Kind.{Kind}
-use Rattle.rendezvous.specs.declared.steps.Kind.TheVariants.{Online, Offline, Absent}
-use Rattle.rendezvous.specs.declared.steps.Local.{Local}
-use Rattle.rendezvous.specs.Plan.{Plan, is_offline}
-use Rattle.rendezvous.specs.Events.{put}
-use Rattle.rendezvous.specs.Facets.{past_arriving, has_come, has_counted, past_freeing, has_kicked, has_withdrawn, has_released}
-use Rattle.rendezvous.specs.Awaited.{awaited, counted}
-use Rattle.rendezvous.specs.Rule.{OfflineOk, is_passed, is_released, nmi_of, nmi_by}
+use Rattle.rendezvous_steps.specs.declared.steps.Kind.{Kind}
+use Rattle.rendezvous_steps.specs.declared.steps.Kind.TheVariants.{Online, Offline, Absent}
+use Rattle.rendezvous_steps.specs.declared.steps.Local.{Local}
+use Rattle.rendezvous_steps.specs.Plan.{Plan, is_offline}
+use Rattle.rendezvous_steps.specs.Events.{put}
+use Rattle.rendezvous_rule.specs.Facets.{past_arriving, has_come, has_counted, past_freeing, has_kicked, has_withdrawn, has_released}
+use Rattle.rendezvous_rule.specs.Awaited.{awaited, counted}
+use Rattle.rendezvous_rule.specs.Rule.{OfflineOk, is_passed, is_released, nmi_of, nmi_by}
 use Rattle.round_laws.proofs.Count.{count_same, same_or_not}
 
 pub put_same : {A : Type 0} (table : ℕ → A) (t : ℕ) (entry : A) → put table t entry t ≡ entry

@@ -1,29 +1,29 @@
 -- The step of a primary that frees another thread of its group.
 use Rattle.std.proofs.Common.{◌≡◌, ℕ, ◌+◌, ◌<◌, Bool, true, false, ◌&&◌, ◌||◌, ◌==◌, if◌then◌else◌, is_some, refl, ap, sym, ◌∙◌, subst, inl, inr, true≢false}
 use Rattle.std.proofs.lemmas.Bool.{cases_lt}
-use Rattle.rendezvous.specs.declared.steps.Kind.{Kind}
-use Rattle.rendezvous.specs.declared.steps.Kind.TheVariants.{Online}
-use Rattle.rendezvous.specs.declared.steps.Phase.TheVariants as phase
-use Rattle.rendezvous.specs.declared.steps.Local.{Local}
-use Rattle.rendezvous.specs.declared.steps.How.{How}
-use Rattle.rendezvous.specs.declared.steps.How.TheVariants as how
-use Rattle.rendezvous.specs.declared.operations.Word.TheVariants as word
-use Rattle.rendezvous.specs.declared.operations.Op.TheVariants.{Cas}
-use Rattle.rendezvous.specs.declared.items.What.{What}
-use Rattle.rendezvous.specs.declared.items.What.TheVariants as what
-use Rattle.rendezvous.specs.Plan.{Plan, Sound, is_absent, is_sibling, sibling_from}
-use Rattle.rendezvous.specs.Padded.{Padded}
-use Rattle.rendezvous.specs.Words.{Families, families}
-use Rattle.rendezvous.specs.StepTable.{operation, operation_in, after, after_in, free_at, release_of, result_of}
-use Rattle.rendezvous.specs.Events.{Running, put, steps}
-use Rattle.rendezvous.specs.Facets.{past_arriving, is_deciding, is_halted, on_go, past_reporting, past_freeing}
-use Rattle.rendezvous.specs.Kinds.{is_offline_phase, is_primary_phase, knows_result}
-use Rattle.rendezvous.specs.Round.{State, In, Reported}
-use Rattle.rendezvous.specs.RoundItems.{FreesSibling}
-use Rattle.rendezvous.specs.RoundItems as items
-use Rattle.rendezvous.specs.RoundStep.{Round}
-use Rattle.rendezvous.specs.Shown.{shown, shown_by, place_of, group_of}
-use Rattle.rendezvous.specs.Rule.{Rule, mode_of, mode_by, has_write, is_passed, is_released, ctrl_of, res_of, result_in}
+use Rattle.rendezvous_steps.specs.declared.steps.Kind.{Kind}
+use Rattle.rendezvous_steps.specs.declared.steps.Kind.TheVariants.{Online}
+use Rattle.rendezvous_steps.specs.declared.steps.Phase.TheVariants as phase
+use Rattle.rendezvous_steps.specs.declared.steps.Local.{Local}
+use Rattle.rendezvous_steps.specs.declared.steps.How.{How}
+use Rattle.rendezvous_steps.specs.declared.steps.How.TheVariants as how
+use Rattle.rendezvous_steps.specs.declared.operations.Word.TheVariants as word
+use Rattle.rendezvous_steps.specs.declared.operations.Op.TheVariants.{Cas}
+use Rattle.rendezvous_steps.specs.declared.items.What.{What}
+use Rattle.rendezvous_steps.specs.declared.items.What.TheVariants as what
+use Rattle.rendezvous_steps.specs.Plan.{Plan, Sound, is_absent, is_sibling, sibling_from}
+use Rattle.rendezvous_steps.specs.Padded.{Padded}
+use Rattle.rendezvous_steps.specs.Words.{Families, families}
+use Rattle.rendezvous_steps.specs.StepTable.{operation, operation_in, after, after_in, free_at, release_of, result_of}
+use Rattle.rendezvous_steps.specs.Events.{Running, put, steps}
+use Rattle.rendezvous_rule.specs.Facets.{past_arriving, is_deciding, is_halted, on_go, past_reporting, past_freeing}
+use Rattle.rendezvous_rule.specs.Kinds.{is_offline_phase, is_primary_phase, knows_result}
+use Rattle.rendezvous_model.specs.Round.{State, In, Reported}
+use Rattle.rendezvous_model.specs.RoundItems.{FreesSibling}
+use Rattle.rendezvous_model.specs.RoundItems as items
+use Rattle.rendezvous_model.specs.RoundStep.{Round}
+use Rattle.rendezvous_rule.specs.Shown.{shown, shown_by, place_of, group_of}
+use Rattle.rendezvous_rule.specs.Rule.{Rule, mode_of, mode_by, has_write, is_passed, is_released, ctrl_of, res_of, result_in}
 use Rattle.round_laws.specs.OneStep.{Ruled, Kept, KeepsTheRule, event_of}
 use Rattle.round_laws.proofs.Paths.{at_phase, is_at}
 use Rattle.round_laws.proofs.Moved.{is_step, stepped, moved, online_at, ctrl_free, inner_round}

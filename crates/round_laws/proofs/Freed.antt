@@ -2,18 +2,18 @@
 use Rattle.std.proofs.Common.{◌≡◌, ℕ, ◌+◌, Bool, true, false, ◌&&◌, ◌||◌, ◌==◌, nat_lt, if◌then◌else◌, refl, ap, sym, ◌∙◌, subst, arith, inl, inr, true≢false}
 use mathlib.Core.Path.{fun_ext}
 use Rattle.std.proofs.lemmas.Bool.Decides.{nat_tests}
-use Rattle.rendezvous.specs.declared.steps.Kind.{Kind}
-use Rattle.rendezvous.specs.declared.steps.Kind.TheVariants.{Online, Offline}
-use Rattle.rendezvous.specs.declared.steps.Phase.TheVariants as phase
-use Rattle.rendezvous.specs.declared.steps.Local.{Local}
-use Rattle.rendezvous.specs.Plan.{Plan, Sound, is_primary, is_sibling}
-use Rattle.rendezvous.specs.Padded.{Padded}
-use Rattle.rendezvous.specs.Words.{Families}
-use Rattle.rendezvous.specs.Events.{put}
-use Rattle.rendezvous.specs.Facets.{past_arriving, has_counted, is_deciding, is_writing, is_halted, past_writing, past_reporting, past_freeing, has_kicked, has_withdrawn}
-use Rattle.rendezvous.specs.Awaited.{awaited, counted}
-use Rattle.rendezvous.specs.Shown.{shown, place_of, arrived_of}
-use Rattle.rendezvous.specs.Rule.{Rule, OnlineOk, OfflineOk, mode_of, is_passed, is_released, ctrl_of, rev_of, res_of, result_in}
+use Rattle.rendezvous_steps.specs.declared.steps.Kind.{Kind}
+use Rattle.rendezvous_steps.specs.declared.steps.Kind.TheVariants.{Online, Offline}
+use Rattle.rendezvous_steps.specs.declared.steps.Phase.TheVariants as phase
+use Rattle.rendezvous_steps.specs.declared.steps.Local.{Local}
+use Rattle.rendezvous_steps.specs.Plan.{Plan, Sound, is_primary, is_sibling}
+use Rattle.rendezvous_steps.specs.Padded.{Padded}
+use Rattle.rendezvous_steps.specs.Words.{Families}
+use Rattle.rendezvous_steps.specs.Events.{put}
+use Rattle.rendezvous_rule.specs.Facets.{past_arriving, has_counted, is_deciding, is_writing, is_halted, past_writing, past_reporting, past_freeing, has_kicked, has_withdrawn}
+use Rattle.rendezvous_rule.specs.Awaited.{awaited, counted}
+use Rattle.rendezvous_rule.specs.Shown.{shown, place_of, arrived_of}
+use Rattle.rendezvous_rule.specs.Rule.{Rule, OnlineOk, OfflineOk, mode_of, is_passed, is_released, ctrl_of, rev_of, res_of, result_in}
 use Rattle.round_laws.proofs.Count.{same_or_not}
 use Rattle.round_laws.proofs.Frame.{put_same, put_other, facet, facet_at, zero_facet, another_kind, released_kept, nmi_kept, awaited_kept, counted_kept, offline_kept}
 use Rattle.round_laws.proofs.Seen.{same_state}

@@ -2,19 +2,19 @@
 use Rattle.std.proofs.Common.{◌≡◌, ◌≢◌, ℕ, ◌+◌, ◌-◌, ◌<◌, ◌≤◌, Bool, true, false, not, ◌&&◌, ◌==◌, nat_lt, if◌then◌else◌, Option, Some, None, is_some, refl, ap, sym, ◌∙◌, arith, inl, inr, true≢false}
 use Rattle.std.proofs.lemmas.Bool.{cases_lt}
 use Rattle.std.proofs.lemmas.Bool.Decides.{nat_tests}
-use Rattle.rendezvous.specs.declared.steps.Kind.{Kind}
-use Rattle.rendezvous.specs.declared.steps.Kind.TheVariants.{Online, Offline, Absent}
-use Rattle.rendezvous.specs.declared.steps.Phase.{Phase}
-use Rattle.rendezvous.specs.declared.steps.Phase.TheVariants as phase
-use Rattle.rendezvous.specs.declared.steps.Local.{Local}
-use Rattle.rendezvous.specs.Plan.{Plan, Sound, is_offline, is_absent, is_primary, is_sibling, sibling_from}
-use Rattle.rendezvous.specs.Padded.{Padded}
-use Rattle.rendezvous.specs.Words.{Families}
-use Rattle.rendezvous.specs.StepTable.{free_at}
-use Rattle.rendezvous.specs.Events.{put}
-use Rattle.rendezvous.specs.Facets.{past_arriving, has_come, is_deciding, is_writing, is_halted, on_go, on_drop, ends_on_go, past_writing, past_reporting, past_freeing, has_kicked, has_withdrawn, has_released, releases_past, drops}
-use Rattle.rendezvous.specs.Kinds.{is_online_phase, is_zero_phase, names_offline, is_primary_phase, needs_offer, is_sibling_phase, knows_result}
-use Rattle.rendezvous.specs.Rule.{Rule, OnlineOk, mode_of, mode_by, has_write, is_passed, is_released, result_in, result_for}
+use Rattle.rendezvous_steps.specs.declared.steps.Kind.{Kind}
+use Rattle.rendezvous_steps.specs.declared.steps.Kind.TheVariants.{Online, Offline, Absent}
+use Rattle.rendezvous_steps.specs.declared.steps.Phase.{Phase}
+use Rattle.rendezvous_steps.specs.declared.steps.Phase.TheVariants as phase
+use Rattle.rendezvous_steps.specs.declared.steps.Local.{Local}
+use Rattle.rendezvous_steps.specs.Plan.{Plan, Sound, is_offline, is_absent, is_primary, is_sibling, sibling_from}
+use Rattle.rendezvous_steps.specs.Padded.{Padded}
+use Rattle.rendezvous_steps.specs.Words.{Families}
+use Rattle.rendezvous_steps.specs.StepTable.{free_at}
+use Rattle.rendezvous_steps.specs.Events.{put}
+use Rattle.rendezvous_rule.specs.Facets.{past_arriving, has_come, is_deciding, is_writing, is_halted, on_go, on_drop, ends_on_go, past_writing, past_reporting, past_freeing, has_kicked, has_withdrawn, has_released, releases_past, drops}
+use Rattle.rendezvous_rule.specs.Kinds.{is_online_phase, is_zero_phase, names_offline, is_primary_phase, needs_offer, is_sibling_phase, knows_result}
+use Rattle.rendezvous_rule.specs.Rule.{Rule, OnlineOk, mode_of, mode_by, has_write, is_passed, is_released, result_in, result_for}
 use Rattle.round_laws.proofs.Count.{same_or_not}
 use Rattle.round_laws.proofs.Frame.{put_same, put_other}
 use Rattle.round_laws.proofs.Search.{found, found_none}

@@ -1,18 +1,18 @@
 -- After a go every thread has arrived, and one that was not passed is in the handler or has halted there.
 use Rattle.std.proofs.Common.{◌≡◌, ◌≢◌, ℕ, ◌-◌, Bool, true, false, not, ◌&&◌, ◌||◌, ◌==◌, refl, ap, sym, ◌∙◌, arith, ◌⊎◌, inl, inr, true≢false}
-use Rattle.rendezvous.specs.declared.steps.Kind.{Kind}
-use Rattle.rendezvous.specs.declared.steps.Kind.TheVariants.{Online, Offline, Absent}
-use Rattle.rendezvous.specs.declared.steps.Phase.{Phase}
-use Rattle.rendezvous.specs.declared.steps.Phase.TheVariants as phase
-use Rattle.rendezvous.specs.declared.steps.Local.{Local}
-use Rattle.rendezvous.specs.Plan.{Plan, Sound, is_online, is_offline, is_absent, is_primary, offline_count}
-use Rattle.rendezvous.specs.Padded.{Padded}
-use Rattle.rendezvous.specs.Words.{Families}
-use Rattle.rendezvous.specs.Facets.{past_arriving, has_come, has_counted, is_halted, on_drop, ends_on_go}
-use Rattle.rendezvous.specs.Awaited.{awaited, counted}
-use Rattle.rendezvous.specs.Round.{In}
-use Rattle.rendezvous.specs.Shown.{place_of}
-use Rattle.rendezvous.specs.Rule.{Rule, OnlineOk, mode_of, mode_by, online_mode, has_write, is_passed, is_released, nmi_of, nmi_by}
+use Rattle.rendezvous_steps.specs.declared.steps.Kind.{Kind}
+use Rattle.rendezvous_steps.specs.declared.steps.Kind.TheVariants.{Online, Offline, Absent}
+use Rattle.rendezvous_steps.specs.declared.steps.Phase.{Phase}
+use Rattle.rendezvous_steps.specs.declared.steps.Phase.TheVariants as phase
+use Rattle.rendezvous_steps.specs.declared.steps.Local.{Local}
+use Rattle.rendezvous_steps.specs.Plan.{Plan, Sound, is_online, is_offline, is_absent, is_primary, offline_count}
+use Rattle.rendezvous_steps.specs.Padded.{Padded}
+use Rattle.rendezvous_steps.specs.Words.{Families}
+use Rattle.rendezvous_rule.specs.Facets.{past_arriving, has_come, has_counted, is_halted, on_drop, ends_on_go}
+use Rattle.rendezvous_rule.specs.Awaited.{awaited, counted}
+use Rattle.rendezvous_model.specs.Round.{In}
+use Rattle.rendezvous_rule.specs.Shown.{place_of}
+use Rattle.rendezvous_rule.specs.Rule.{Rule, OnlineOk, mode_of, mode_by, online_mode, has_write, is_passed, is_released, nmi_of, nmi_by}
 use Rattle.round_laws.proofs.Count.{count_none, count_all, same_or_not}
 use Rattle.round_laws.proofs.Search.{online_in_range, offline_in_range}
 

@@ -2,28 +2,28 @@
 use Rattle.std.proofs.Common.{◌≡◌, ◌≢◌, ℕ, ◌+◌, ◌<◌, ◌≤◌, Bool, true, false, not, ◌&&◌, ◌==◌, nat_lt, Option, Some, None, refl, ap, sym, ◌∙◌, subst, arith, inl, inr, true≢false}
 use Rattle.std.proofs.lemmas.Bool.{cases_lt}
 use Rattle.std.proofs.lemmas.Bool.Decides.{nat_tests}
-use Rattle.rendezvous.specs.declared.steps.Kind.{Kind}
-use Rattle.rendezvous.specs.declared.steps.Kind.TheVariants.{Online, Offline, Absent}
-use Rattle.rendezvous.specs.declared.steps.Phase.TheVariants as phase
-use Rattle.rendezvous.specs.declared.steps.Local.{Local}
-use Rattle.rendezvous.specs.declared.steps.How.{How}
-use Rattle.rendezvous.specs.declared.steps.How.TheVariants as how
-use Rattle.rendezvous.specs.declared.operations.Word.TheVariants as word
-use Rattle.rendezvous.specs.declared.operations.Op.TheVariants.{Store}
-use Rattle.rendezvous.specs.declared.items.What.TheVariants as what
-use Rattle.rendezvous.specs.Plan.{Plan, Sound, is_offline, offline_from, offline_count}
-use Rattle.rendezvous.specs.Padded.{Padded}
-use Rattle.rendezvous.specs.Words.{Families, families}
-use Rattle.rendezvous.specs.StepTable.{operation, operation_in, after, after_in, kick_at}
-use Rattle.rendezvous.specs.Events.{Running, put, steps}
-use Rattle.rendezvous.specs.Facets.{past_arriving, has_come, has_counted, is_deciding, is_writing, is_halted, on_go, on_drop, ends_on_go, past_writing, past_reporting, past_freeing, has_kicked, has_withdrawn, has_released}
-use Rattle.rendezvous.specs.Kinds.{is_online_phase, is_offline_phase, is_zero_phase, names_offline, is_primary_phase, needs_offer, is_sibling_phase, knows_result}
-use Rattle.rendezvous.specs.Awaited.{awaited, counted}
-use Rattle.rendezvous.specs.Round.{State}
-use Rattle.rendezvous.specs.RoundItems.{Kicks}
-use Rattle.rendezvous.specs.RoundStep.{Round}
-use Rattle.rendezvous.specs.Shown.{shown, place_of, arrived_of}
-use Rattle.rendezvous.specs.Rule.{Rule, OnlineOk, OfflineOk, mode_of, mode_by, has_write, is_passed, is_released, ctrl_of, nmi_of, nmi_by, rev_of, res_of, result_in}
+use Rattle.rendezvous_steps.specs.declared.steps.Kind.{Kind}
+use Rattle.rendezvous_steps.specs.declared.steps.Kind.TheVariants.{Online, Offline, Absent}
+use Rattle.rendezvous_steps.specs.declared.steps.Phase.TheVariants as phase
+use Rattle.rendezvous_steps.specs.declared.steps.Local.{Local}
+use Rattle.rendezvous_steps.specs.declared.steps.How.{How}
+use Rattle.rendezvous_steps.specs.declared.steps.How.TheVariants as how
+use Rattle.rendezvous_steps.specs.declared.operations.Word.TheVariants as word
+use Rattle.rendezvous_steps.specs.declared.operations.Op.TheVariants.{Store}
+use Rattle.rendezvous_steps.specs.declared.items.What.TheVariants as what
+use Rattle.rendezvous_steps.specs.Plan.{Plan, Sound, is_offline, offline_from, offline_count}
+use Rattle.rendezvous_steps.specs.Padded.{Padded}
+use Rattle.rendezvous_steps.specs.Words.{Families, families}
+use Rattle.rendezvous_steps.specs.StepTable.{operation, operation_in, after, after_in, kick_at}
+use Rattle.rendezvous_steps.specs.Events.{Running, put, steps}
+use Rattle.rendezvous_rule.specs.Facets.{past_arriving, has_come, has_counted, is_deciding, is_writing, is_halted, on_go, on_drop, ends_on_go, past_writing, past_reporting, past_freeing, has_kicked, has_withdrawn, has_released}
+use Rattle.rendezvous_rule.specs.Kinds.{is_online_phase, is_offline_phase, is_zero_phase, names_offline, is_primary_phase, needs_offer, is_sibling_phase, knows_result}
+use Rattle.rendezvous_rule.specs.Awaited.{awaited, counted}
+use Rattle.rendezvous_model.specs.Round.{State}
+use Rattle.rendezvous_model.specs.RoundItems.{Kicks}
+use Rattle.rendezvous_model.specs.RoundStep.{Round}
+use Rattle.rendezvous_rule.specs.Shown.{shown, place_of, arrived_of}
+use Rattle.rendezvous_rule.specs.Rule.{Rule, OnlineOk, OfflineOk, mode_of, mode_by, has_write, is_passed, is_released, ctrl_of, nmi_of, nmi_by, rev_of, res_of, result_in}
 use Rattle.round_laws.specs.OneStep.{Ruled, Kept, KeepsTheRule, event_of}
 use Rattle.round_laws.proofs.Count.{same_or_not}
 use Rattle.round_laws.proofs.Frame.{put_same, put_other, facet, facet_at, another_kind, passed_kept, released_kept, awaited_kept, counted_kept, offline_moved}

@@ -2,27 +2,27 @@
 use Rattle.std.proofs.Common.{◌≡◌, ◌≢◌, ℕ, Bool, true, false, ◌==◌, if◌then◌else◌, Some, refl, ap, sym, ◌∙◌, subst, arith, true≢false}
 use mathlib.Core.Path.{fun_ext}
 use Rattle.std.proofs.lemmas.Bool.Decides.{nat_tests}
-use Rattle.rendezvous.specs.declared.steps.Kind.{Kind}
-use Rattle.rendezvous.specs.declared.steps.Kind.TheVariants.{Online, Offline, Absent}
-use Rattle.rendezvous.specs.declared.steps.Phase.{Phase}
-use Rattle.rendezvous.specs.declared.steps.Phase.TheVariants as phase
-use Rattle.rendezvous.specs.declared.steps.Local.{Local}
-use Rattle.rendezvous.specs.declared.steps.How.{How}
-use Rattle.rendezvous.specs.declared.steps.How.TheVariants as how
-use Rattle.rendezvous.specs.declared.operations.Word.TheVariants as word
-use Rattle.rendezvous.specs.declared.operations.Op.{Op}
-use Rattle.rendezvous.specs.declared.items.What.{What}
-use Rattle.rendezvous.specs.declared.items.What.TheVariants as what
-use Rattle.rendezvous.specs.Plan.{Plan, Sound}
-use Rattle.rendezvous.specs.Words.{Families, families, touched, words_after}
-use Rattle.rendezvous.specs.StepTable.{operation, after}
-use Rattle.rendezvous.specs.Events.{Running, put, performs, steps}
-use Rattle.rendezvous.specs.Facets.{is_deciding}
-use Rattle.rendezvous.specs.Kinds.{is_offline_phase}
-use Rattle.rendezvous.specs.Round.{State, In, nobody}
-use Rattle.rendezvous.specs.RoundStep.{Round}
-use Rattle.rendezvous.specs.Shown.{shown, shown_by, place_of, stage_of}
-use Rattle.rendezvous.specs.Rule.{Rule, ctrl_of, is_passed, is_released, result_in}
+use Rattle.rendezvous_steps.specs.declared.steps.Kind.{Kind}
+use Rattle.rendezvous_steps.specs.declared.steps.Kind.TheVariants.{Online, Offline, Absent}
+use Rattle.rendezvous_steps.specs.declared.steps.Phase.{Phase}
+use Rattle.rendezvous_steps.specs.declared.steps.Phase.TheVariants as phase
+use Rattle.rendezvous_steps.specs.declared.steps.Local.{Local}
+use Rattle.rendezvous_steps.specs.declared.steps.How.{How}
+use Rattle.rendezvous_steps.specs.declared.steps.How.TheVariants as how
+use Rattle.rendezvous_steps.specs.declared.operations.Word.TheVariants as word
+use Rattle.rendezvous_steps.specs.declared.operations.Op.{Op}
+use Rattle.rendezvous_steps.specs.declared.items.What.{What}
+use Rattle.rendezvous_steps.specs.declared.items.What.TheVariants as what
+use Rattle.rendezvous_steps.specs.Plan.{Plan, Sound}
+use Rattle.rendezvous_steps.specs.Words.{Families, families, touched, words_after}
+use Rattle.rendezvous_steps.specs.StepTable.{operation, after}
+use Rattle.rendezvous_steps.specs.Events.{Running, put, performs, steps}
+use Rattle.rendezvous_rule.specs.Facets.{is_deciding}
+use Rattle.rendezvous_rule.specs.Kinds.{is_offline_phase}
+use Rattle.rendezvous_model.specs.Round.{State, In, nobody}
+use Rattle.rendezvous_model.specs.RoundStep.{Round}
+use Rattle.rendezvous_rule.specs.Shown.{shown, shown_by, place_of, stage_of}
+use Rattle.rendezvous_rule.specs.Rule.{Rule, ctrl_of, is_passed, is_released, result_in}
 use Rattle.round_laws.specs.OneStep.{Ruled, Kept, event_of}
 use Rattle.round_laws.proofs.Decision.{Quiet, Decided, decision_rule, decision_shown}
 use Rattle.round_laws.proofs.Paths.{Plain, Turned, quiet}

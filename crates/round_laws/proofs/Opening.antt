@@ -1,16 +1,16 @@
 -- The rule at the opening.
 use Rattle.std.proofs.Common.{subst, cond, ◌≡◌, ℕ, ◌+◌, ◌-◌, Bool, true, false, not, ◌&&◌, refl, ap, sym, ◌∙◌, arith, inl, inr, true≢false}
-use Rattle.rendezvous.specs.declared.steps.Kind.{Kind}
-use Rattle.rendezvous.specs.declared.steps.Kind.TheVariants.{Online, Offline, Absent}
-use Rattle.rendezvous.specs.declared.steps.Phase.{Phase}
-use Rattle.rendezvous.specs.declared.steps.Phase.TheVariants as phase
-use Rattle.rendezvous.specs.declared.steps.Local.{Local}
-use Rattle.rendezvous.specs.Plan.{Plan, Sound, is_online, is_offline, online_count}
-use Rattle.rendezvous.specs.StepTable.{opening, opening_phase, opening_mine}
-use Rattle.rendezvous.specs.Facets.{past_arriving, has_come, has_counted, is_deciding, is_halted, on_go, on_drop, ends_on_go, past_writing, past_reporting, past_freeing, has_kicked}
-use Rattle.rendezvous.specs.Kinds.{is_online_phase, is_offline_phase, is_zero_phase, names_offline, is_primary_phase, needs_offer, is_sibling_phase, knows_result}
-use Rattle.rendezvous.specs.Awaited.{awaited, counted}
-use Rattle.rendezvous.specs.Rule.{OnlineOk, OfflineOk, mode_of, mode_by, is_passed, is_released, ctrl_of, nmi_of, nmi_by, rev_of, res_of, result_in, has_write}
+use Rattle.rendezvous_steps.specs.declared.steps.Kind.{Kind}
+use Rattle.rendezvous_steps.specs.declared.steps.Kind.TheVariants.{Online, Offline, Absent}
+use Rattle.rendezvous_steps.specs.declared.steps.Phase.{Phase}
+use Rattle.rendezvous_steps.specs.declared.steps.Phase.TheVariants as phase
+use Rattle.rendezvous_steps.specs.declared.steps.Local.{Local}
+use Rattle.rendezvous_steps.specs.Plan.{Plan, Sound, is_online, is_offline, online_count}
+use Rattle.rendezvous_steps.specs.StepTable.{opening, opening_phase, opening_mine}
+use Rattle.rendezvous_rule.specs.Facets.{past_arriving, has_come, has_counted, is_deciding, is_halted, on_go, on_drop, ends_on_go, past_writing, past_reporting, past_freeing, has_kicked}
+use Rattle.rendezvous_rule.specs.Kinds.{is_online_phase, is_offline_phase, is_zero_phase, names_offline, is_primary_phase, needs_offer, is_sibling_phase, knows_result}
+use Rattle.rendezvous_rule.specs.Awaited.{awaited, counted}
+use Rattle.rendezvous_rule.specs.Rule.{OnlineOk, OfflineOk, mode_of, mode_by, is_passed, is_released, ctrl_of, nmi_of, nmi_by, rev_of, res_of, result_in, has_write}
 use Rattle.round_laws.specs.Laws.{OpeningIsRuled}
 use Rattle.round_laws.proofs.Count.{count, count_same, count_zero}
 use Rattle.round_laws.proofs.Threads.{count_zero_first}

@@ -1,16 +1,16 @@
 -- The go path and the drop path: what others see of a thread that takes one.
 use Rattle.std.proofs.Common.{◌≡◌, ◌≢◌, ℕ, ◌-◌, ◌<◌, ◌≤◌, Bool, true, false, ◌&&◌, ◌==◌, nat_lt, if◌then◌else◌, Option, Some, None, refl, ap, sym, ◌∙◌, subst, arith, inl, inr, true≢false}
 use Rattle.std.proofs.lemmas.Bool.Decides.{nat_tests}
-use Rattle.rendezvous.specs.declared.steps.Kind.TheVariants.{Online, Offline}
-use Rattle.rendezvous.specs.declared.steps.Phase.{Phase}
-use Rattle.rendezvous.specs.declared.steps.Phase.TheVariants as phase
-use Rattle.rendezvous.specs.declared.steps.Local.{Local}
-use Rattle.rendezvous.specs.Plan.{Plan, Sound, is_offline, is_primary, offline_from, offline_count}
-use Rattle.rendezvous.specs.Padded.{Padded}
-use Rattle.rendezvous.specs.StepTable.{go_path, drop_path, to, wait_in, with_result, withdraw_at}
-use Rattle.rendezvous.specs.Facets.{past_arriving, is_deciding, is_writing, is_halted, on_go, on_drop, ends_on_go, past_writing, past_reporting, past_freeing, has_kicked, has_withdrawn, has_released}
-use Rattle.rendezvous.specs.Kinds.{is_online_phase, is_zero_phase, names_offline, is_primary_phase, needs_offer, is_sibling_phase, knows_result}
-use Rattle.rendezvous.specs.Rule.{OnlineOk, mode_of, mode_by, has_write}
+use Rattle.rendezvous_steps.specs.declared.steps.Kind.TheVariants.{Online, Offline}
+use Rattle.rendezvous_steps.specs.declared.steps.Phase.{Phase}
+use Rattle.rendezvous_steps.specs.declared.steps.Phase.TheVariants as phase
+use Rattle.rendezvous_steps.specs.declared.steps.Local.{Local}
+use Rattle.rendezvous_steps.specs.Plan.{Plan, Sound, is_offline, is_primary, offline_from, offline_count}
+use Rattle.rendezvous_steps.specs.Padded.{Padded}
+use Rattle.rendezvous_steps.specs.StepTable.{go_path, drop_path, to, wait_in, with_result, withdraw_at}
+use Rattle.rendezvous_rule.specs.Facets.{past_arriving, is_deciding, is_writing, is_halted, on_go, on_drop, ends_on_go, past_writing, past_reporting, past_freeing, has_kicked, has_withdrawn, has_released}
+use Rattle.rendezvous_rule.specs.Kinds.{is_online_phase, is_zero_phase, names_offline, is_primary_phase, needs_offer, is_sibling_phase, knows_result}
+use Rattle.rendezvous_rule.specs.Rule.{OnlineOk, mode_of, mode_by, has_write}
 use Rattle.std.proofs.lemmas.Bool.{cases_lt}
 use Rattle.round_laws.proofs.Count.{count_some}
 use Rattle.round_laws.proofs.Decision.{Quiet}

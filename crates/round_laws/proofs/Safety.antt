@@ -3,24 +3,24 @@ use Rattle.std.proofs.Common.{◌≡◌, ◌≢◌, ℕ, ◌+◌, ◌-◌, ◌<�
 use Rattle.std.specs.Prelude.{unwrap_or}
 use Rattle.std.proofs.lemmas.Bool.{cases_lt}
 use Rattle.std.proofs.lemmas.Bool.Decides.{nat_tests}
-use Rattle.rendezvous.specs.declared.steps.Kind.{Kind}
-use Rattle.rendezvous.specs.declared.steps.Kind.TheVariants.{Online, Offline, Absent}
-use Rattle.rendezvous.specs.declared.steps.Phase.{Phase}
-use Rattle.rendezvous.specs.declared.steps.Phase.TheVariants as phase
-use Rattle.rendezvous.specs.declared.steps.Local.{Local}
-use Rattle.rendezvous.specs.declared.steps.ThreadResult.{ThreadResult}
-use Rattle.rendezvous.specs.declared.steps.ThreadResult.TheVariants as results
-use Rattle.rendezvous.specs.Plan.{Plan, Sound, is_absent, is_primary}
-use Rattle.rendezvous.specs.Padded.{Padded}
-use Rattle.rendezvous.specs.Words.{Families, families}
-use Rattle.rendezvous.specs.StepTable.{result_of}
-use Rattle.rendezvous.specs.Events.{Running}
-use Rattle.rendezvous.specs.Facets.{is_halted, is_writing, on_go, past_writing, past_reporting, past_freeing, ends_on_go, goes, wrote, reported, shows_write, frees_past}
-use Rattle.rendezvous.specs.Round.{Place, In, Halted, Left, GroupPlace, Waiting, Writing, Written, Reported, Stage, is_held, is_going}
-use Rattle.rendezvous.specs.Round as round
-use Rattle.rendezvous.specs.Safe.{is_in_write}
-use Rattle.rendezvous.specs.Shown.{shown_by, place_of, stage_of}
-use Rattle.rendezvous.specs.Rule.{Rule, mode_of, mode_by, online_mode, has_write, is_passed, ctrl_of, rev_of, res_of, result_in, result_for}
+use Rattle.rendezvous_steps.specs.declared.steps.Kind.{Kind}
+use Rattle.rendezvous_steps.specs.declared.steps.Kind.TheVariants.{Online, Offline, Absent}
+use Rattle.rendezvous_steps.specs.declared.steps.Phase.{Phase}
+use Rattle.rendezvous_steps.specs.declared.steps.Phase.TheVariants as phase
+use Rattle.rendezvous_steps.specs.declared.steps.Local.{Local}
+use Rattle.rendezvous_steps.specs.declared.steps.ThreadResult.{ThreadResult}
+use Rattle.rendezvous_steps.specs.declared.steps.ThreadResult.TheVariants as results
+use Rattle.rendezvous_steps.specs.Plan.{Plan, Sound, is_absent, is_primary}
+use Rattle.rendezvous_steps.specs.Padded.{Padded}
+use Rattle.rendezvous_steps.specs.Words.{Families, families}
+use Rattle.rendezvous_steps.specs.StepTable.{result_of}
+use Rattle.rendezvous_steps.specs.Events.{Running}
+use Rattle.rendezvous_rule.specs.Facets.{is_halted, is_writing, on_go, past_writing, past_reporting, past_freeing, ends_on_go, goes, wrote, reported, shows_write, frees_past}
+use Rattle.rendezvous_model.specs.Round.{Place, In, Halted, Left, GroupPlace, Waiting, Writing, Written, Reported, Stage, is_held, is_going}
+use Rattle.rendezvous_model.specs.Round as round
+use Rattle.rendezvous_model.specs.Safe.{is_in_write}
+use Rattle.rendezvous_rule.specs.Shown.{shown_by, place_of, stage_of}
+use Rattle.rendezvous_rule.specs.Rule.{Rule, mode_of, mode_by, online_mode, has_write, is_passed, ctrl_of, rev_of, res_of, result_in, result_for}
 use Rattle.round_laws.specs.OneStep.{Ruled}
 use Rattle.round_laws.specs.Laws.{RuledIsSafe}
 use Rattle.round_laws.proofs.Freeing.{none_released}

@@ -1,10 +1,10 @@
 -- The first number of a range that passes a test.
 use Rattle.std.proofs.Common.{◌≡◌, ℕ, zero, suc, ◌+◌, ◌-◌, ◌<◌, ◌≤◌, Bool, true, false, cond, Option, Some, None, find, refl, ap, sym, ◌∙◌, arith, ◌⊎◌, inl, inr, true≢false}
 use Rattle.std.specs.List.{range_with_len}
-use Rattle.rendezvous.specs.declared.steps.Kind.{Kind}
-use Rattle.rendezvous.specs.declared.steps.Kind.TheVariants.{Online, Offline, Absent}
-use Rattle.rendezvous.specs.Plan.{Plan, is_offline, offline_from}
-use Rattle.rendezvous.specs.Padded.{Padded}
+use Rattle.rendezvous_steps.specs.declared.steps.Kind.{Kind}
+use Rattle.rendezvous_steps.specs.declared.steps.Kind.TheVariants.{Online, Offline, Absent}
+use Rattle.rendezvous_steps.specs.Plan.{Plan, is_offline, offline_from}
+use Rattle.rendezvous_steps.specs.Padded.{Padded}
 use Rattle.std.proofs.lemmas.Bool.{cases_lt}
 use Rattle.round_laws.proofs.Count.{same_or_not}
 

@@ -1,15 +1,15 @@
 -- A moment with the rule shows one state.
 use Rattle.std.proofs.Common.{◌≡◌, ℕ, ◌+◌, ◌-◌, ◌≤◌, Bool, true, false, cond, not, ◌&&◌, ◌==◌, refl, ap, sym, ◌∙◌, arith, ◌⊎◌}
 use Rattle.std.proofs.lemmas.Bool.Decides.{nat_tests}
-use Rattle.rendezvous.specs.declared.steps.Kind.{Kind}
-use Rattle.rendezvous.specs.declared.steps.Kind.TheVariants.{Online, Offline, Absent as KindAbsent}
-use Rattle.rendezvous.specs.declared.steps.Local.{Local}
-use Rattle.rendezvous.specs.Plan.{Plan, Sound, is_online, is_offline}
-use Rattle.rendezvous.specs.StepTable.{opening}
-use Rattle.rendezvous.specs.Facets.{past_arriving, has_counted}
-use Rattle.rendezvous.specs.Awaited.{awaited, counted}
-use Rattle.rendezvous.specs.Round.{State, still_awaited, offline_arrived, opening_place}
-use Rattle.rendezvous.specs.Shown.{arrived_of, place_of}
+use Rattle.rendezvous_steps.specs.declared.steps.Kind.{Kind}
+use Rattle.rendezvous_steps.specs.declared.steps.Kind.TheVariants.{Online, Offline, Absent as KindAbsent}
+use Rattle.rendezvous_steps.specs.declared.steps.Local.{Local}
+use Rattle.rendezvous_steps.specs.Plan.{Plan, Sound, is_online, is_offline}
+use Rattle.rendezvous_steps.specs.StepTable.{opening}
+use Rattle.rendezvous_rule.specs.Facets.{past_arriving, has_counted}
+use Rattle.rendezvous_rule.specs.Awaited.{awaited, counted}
+use Rattle.rendezvous_model.specs.Round.{State, still_awaited, offline_arrived, opening_place}
+use Rattle.rendezvous_rule.specs.Shown.{arrived_of, place_of}
 use Rattle.round_laws.specs.Laws.{OpeningIsShown, RuledShows, ShowsOne}
 use Rattle.round_laws.proofs.Count.{count, count_same, count_same_from}
 use Rattle.round_laws.proofs.Threads.{count_zero_first}

@@ -2,9 +2,9 @@
 use Rattle.std.proofs.Common.{◌≡◌, ◌≢◌, ℕ, ◌+◌, ◌-◌, ◌<◌, ◌≤◌, Bool, true, false, ◌==◌, nat_le, Option, Some, None, refl, ap, sym, ◌∙◌, arith, inl, inr, true≢false}
 use Rattle.std.proofs.lemmas.Bool.{cases_lt}
 use Rattle.std.proofs.lemmas.Bool.Decides.{nat_tests}
-use Rattle.rendezvous.specs.Plan.{Plan}
-use Rattle.rendezvous.specs.Outcome.{Outcome}
-use Rattle.rendezvous.specs.Verdict.{Done, Panicked, Unfinished, OfflineSilent, TimedOut, Failed, Incomplete, halted_at, unfinished_at, refused_at, some_updated, IsLowest, NoThread, AllEnded, LoadVerdict, lowest, dropped, refused, verdict_from, load_verdict}
+use Rattle.rendezvous_steps.specs.Plan.{Plan}
+use Rattle.rendezvous_model.specs.Outcome.{Outcome}
+use Rattle.rendezvous_model.specs.Verdict.{Done, Panicked, Unfinished, OfflineSilent, TimedOut, Failed, Incomplete, halted_at, unfinished_at, refused_at, some_updated, IsLowest, NoThread, AllEnded, LoadVerdict, lowest, dropped, refused, verdict_from, load_verdict}
 use Rattle.round_laws.specs.Laws.{VerdictHolds, VerdictIsOne}
 use Rattle.round_laws.proofs.Count.{same_or_not}
 use Rattle.round_laws.proofs.Search.{found, found_none}

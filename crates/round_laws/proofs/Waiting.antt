@@ -1,29 +1,29 @@
 -- A thread that waits for the decision runs out of patience: it drops, or finds the decision made.
 use Rattle.std.proofs.Common.{◌≡◌, ◌≢◌, ℕ, ◌+◌, ◌-◌, ◌<◌, ◌≤◌, Bool, true, false, cond, not, ◌&&◌, ◌==◌, if◌then◌else◌, Some, refl, ap, sym, ◌∙◌, subst, arith, eq-zero-or-pos, inl, inr, true≢false}
 use Rattle.std.proofs.lemmas.Bool.Decides.{nat_tests}
-use Rattle.rendezvous.specs.declared.steps.Kind.{Kind}
-use Rattle.rendezvous.specs.declared.steps.Kind.TheVariants.{Online, Offline, Absent}
-use Rattle.rendezvous.specs.declared.steps.Phase.TheVariants as phase
-use Rattle.rendezvous.specs.declared.steps.Local.{Local}
-use Rattle.rendezvous.specs.declared.steps.How.{How}
-use Rattle.rendezvous.specs.declared.steps.How.TheVariants as how
-use Rattle.rendezvous.specs.declared.operations.Word.TheVariants as word
-use Rattle.rendezvous.specs.declared.operations.Op.{Op}
-use Rattle.rendezvous.specs.declared.operations.Op.TheVariants.{Cas}
-use Rattle.rendezvous.specs.declared.items.What.{What}
-use Rattle.rendezvous.specs.declared.items.What.TheVariants as what
-use Rattle.rendezvous.specs.declared.items.Event.TheVariants as event
-use Rattle.rendezvous.specs.Plan.{Plan, Sound, is_online, online_count}
-use Rattle.rendezvous.specs.Padded.{Padded}
-use Rattle.rendezvous.specs.Words.{families, touched, words_after}
-use Rattle.rendezvous.specs.StepTable.{operation, operation_in, after, after_in, drop_path, go_path, by_decision}
-use Rattle.rendezvous.specs.Events.{Running, steps}
-use Rattle.rendezvous.specs.Facets.{past_arriving, is_deciding}
-use Rattle.rendezvous.specs.Kinds.{is_offline_phase}
-use Rattle.rendezvous.specs.Awaited.{awaited}
-use Rattle.rendezvous.specs.Round.{DroppedBy, nobody}
-use Rattle.rendezvous.specs.Shown.{shown_by, stage_of, arrived_of}
-use Rattle.rendezvous.specs.Rule.{OnlineOk, is_passed}
+use Rattle.rendezvous_steps.specs.declared.steps.Kind.{Kind}
+use Rattle.rendezvous_steps.specs.declared.steps.Kind.TheVariants.{Online, Offline, Absent}
+use Rattle.rendezvous_steps.specs.declared.steps.Phase.TheVariants as phase
+use Rattle.rendezvous_steps.specs.declared.steps.Local.{Local}
+use Rattle.rendezvous_steps.specs.declared.steps.How.{How}
+use Rattle.rendezvous_steps.specs.declared.steps.How.TheVariants as how
+use Rattle.rendezvous_steps.specs.declared.operations.Word.TheVariants as word
+use Rattle.rendezvous_steps.specs.declared.operations.Op.{Op}
+use Rattle.rendezvous_steps.specs.declared.operations.Op.TheVariants.{Cas}
+use Rattle.rendezvous_steps.specs.declared.items.What.{What}
+use Rattle.rendezvous_steps.specs.declared.items.What.TheVariants as what
+use Rattle.rendezvous_steps.specs.declared.items.Event.TheVariants as event
+use Rattle.rendezvous_steps.specs.Plan.{Plan, Sound, is_online, online_count}
+use Rattle.rendezvous_steps.specs.Padded.{Padded}
+use Rattle.rendezvous_steps.specs.Words.{families, touched, words_after}
+use Rattle.rendezvous_steps.specs.StepTable.{operation, operation_in, after, after_in, drop_path, go_path, by_decision}
+use Rattle.rendezvous_steps.specs.Events.{Running, steps}
+use Rattle.rendezvous_rule.specs.Facets.{past_arriving, is_deciding}
+use Rattle.rendezvous_rule.specs.Kinds.{is_offline_phase}
+use Rattle.rendezvous_rule.specs.Awaited.{awaited}
+use Rattle.rendezvous_model.specs.Round.{DroppedBy, nobody}
+use Rattle.rendezvous_rule.specs.Shown.{shown_by, stage_of, arrived_of}
+use Rattle.rendezvous_rule.specs.Rule.{OnlineOk, is_passed}
 use Rattle.round_laws.specs.OneStep.{Ruled, Kept, KeepsTheRule, event_of}
 use Rattle.round_laws.proofs.Count.{count, count_some, count_both, same_or_not}
 use Rattle.round_laws.proofs.Threads.{count_zero_first}

@@ -1,14 +1,14 @@
 -- Laws of the definitions.
 use Rattle.std.specs.Prelude.{◌≡◌}
-use Rattle.rendezvous.specs.Plan.{Plan, Sound}
-use Rattle.rendezvous.specs.Padded.{Padded}
-use Rattle.rendezvous.specs.Words.{families}
-use Rattle.rendezvous.specs.Events.{Running, opening_running}
-use Rattle.rendezvous.specs.Round.{State, opening_state}
-use Rattle.rendezvous.specs.Shown.{Shows, shown_by}
-use Rattle.rendezvous.specs.Outcome.{Outcome}
-use Rattle.rendezvous.specs.Verdict.{Verdict, LoadVerdict, load_verdict}
-use Rattle.rendezvous.specs.Safe.{Safe}
+use Rattle.rendezvous_steps.specs.Plan.{Plan, Sound}
+use Rattle.rendezvous_steps.specs.Padded.{Padded}
+use Rattle.rendezvous_steps.specs.Words.{families}
+use Rattle.rendezvous_steps.specs.Events.{Running, opening_running}
+use Rattle.rendezvous_model.specs.Round.{State, opening_state}
+use Rattle.rendezvous_rule.specs.Shown.{Shows, shown_by}
+use Rattle.rendezvous_model.specs.Outcome.{Outcome}
+use Rattle.rendezvous_model.specs.Verdict.{Verdict, LoadVerdict, load_verdict}
+use Rattle.rendezvous_model.specs.Safe.{Safe}
 use Rattle.round_laws.specs.OneStep.{Ruled}
 
 -- the rule holds when a rendezvous begins, and what stands there shows the model's opening

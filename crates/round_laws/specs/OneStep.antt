@@ -1,19 +1,19 @@
 -- The law on one step: from words and threads' states that meet the rule, a step or a timeout of one thread leads to words and
 -- threads' states that meet it, and its item is a step of the model between the states that these stand for.
 use Rattle.std.specs.Prelude.{◌≡◌, ℕ}
-use Rattle.rendezvous.specs.declared.steps.Phase.{Phase}
-use Rattle.rendezvous.specs.declared.steps.How.{How}
-use Rattle.rendezvous.specs.declared.steps.How.TheVariants as how
-use Rattle.rendezvous.specs.declared.items.What.{What}
-use Rattle.rendezvous.specs.declared.items.Event.{Event}
-use Rattle.rendezvous.specs.declared.items.Event.TheVariants as event
-use Rattle.rendezvous.specs.Plan.{Plan, Sound}
-use Rattle.rendezvous.specs.Padded.{Padded}
-use Rattle.rendezvous.specs.Words.{families}
-use Rattle.rendezvous.specs.Events.{Running, steps}
-use Rattle.rendezvous.specs.RoundStep.{Round}
-use Rattle.rendezvous.specs.Shown.{shown_by}
-use Rattle.rendezvous.specs.Rule.{Rule}
+use Rattle.rendezvous_steps.specs.declared.steps.Phase.{Phase}
+use Rattle.rendezvous_steps.specs.declared.steps.How.{How}
+use Rattle.rendezvous_steps.specs.declared.steps.How.TheVariants as how
+use Rattle.rendezvous_steps.specs.declared.items.What.{What}
+use Rattle.rendezvous_steps.specs.declared.items.Event.{Event}
+use Rattle.rendezvous_steps.specs.declared.items.Event.TheVariants as event
+use Rattle.rendezvous_steps.specs.Plan.{Plan, Sound}
+use Rattle.rendezvous_steps.specs.Padded.{Padded}
+use Rattle.rendezvous_steps.specs.Words.{families}
+use Rattle.rendezvous_steps.specs.Events.{Running, steps}
+use Rattle.rendezvous_model.specs.RoundStep.{Round}
+use Rattle.rendezvous_rule.specs.Shown.{shown_by}
+use Rattle.rendezvous_rule.specs.Rule.{Rule}
 
 -- The rule of a moment.
 abbrev pub Ruled : Plan → Running → Type 0

@@ -1,7 +1,7 @@
 //! Laws of the definitions: each is the contract of a function that does nothing.
 
-ghost use Rattle.rendezvous.specs.declared.steps.Phase.TheVariants.{Kicking, Deciding, Waiting, Freeing};
-ghost use Rattle.rendezvous.specs.declared.steps.How.TheVariants.{Step, Timeout};
+ghost use Rattle.rendezvous_steps.specs.declared.steps.Phase.TheVariants.{Kicking, Deciding, Waiting, Freeing};
+ghost use Rattle.rendezvous_steps.specs.declared.steps.How.TheVariants.{Step, Timeout};
 ghost use Rattle.round_laws.specs.OneStep.{KeepsTheRule};
 ghost use Rattle.round_laws.specs.Laws.{OpeningIsRuled, OpeningIsShown, RuledIsSafe, RuledShows, ShowsOne, VerdictHolds, VerdictIsOne};
 

@@ -1,5 +1,5 @@
 use Rattle.std.proofs.Common.{◌≡◌}
-use Rattle.rendezvous.specs.Plan.{sibling_from}
+use Rattle.rendezvous_steps.specs.Plan.{sibling_from}
 use Rattle.ctl_words.specs.Plans.{plan_of}
 use Rattle.ctl_thread.proofs.searches.first_sibling.Given as goal
 

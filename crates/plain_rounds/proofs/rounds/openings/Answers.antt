@@ -1,7 +1,7 @@
 use Rattle.std.proofs.Common.{◌≡◌, ◌-◌, ◌++◌, [], ◌∷◌, map, sym, ap, ◌∙◌, arith}
 use Rattle.std.specs.List.{range_with_len}
 use Rattle.std.proofs.lemmas.List.FromFn.{map-range_with_len_more}
-use Rattle.rendezvous.specs.StepTable.{opening}
+use Rattle.rendezvous_steps.specs.StepTable.{opening}
 use Rattle.ctl_words.specs.Plans.{plan_of}
 use Rattle.plain_rounds.proofs.rounds.openings.Goals as goal
 

@@ -1,6 +1,6 @@
 use Rattle.std.proofs.Common.{◌≡◌, map}
 use Rattle.std.specs.List.{range_with_len}
-use Rattle.rendezvous.specs.StepTable.{opening}
+use Rattle.rendezvous_steps.specs.StepTable.{opening}
 use Rattle.ctl_words.specs.Plans.{plan_of}
 use Rattle.plain_rounds.proofs.rounds.openings.Given as goal
 

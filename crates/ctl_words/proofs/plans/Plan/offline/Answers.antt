@@ -1,6 +1,6 @@
 use Rattle.std.proofs.Common.{◌≡◌, ◌∙◌, count_by, rules}
-use Rattle.rendezvous.specs.declared.steps.Kind.TheVariants.{Absent}
-use Rattle.rendezvous.specs.Plan.{is_offline, offline_count}
+use Rattle.rendezvous_steps.specs.declared.steps.Kind.TheVariants.{Absent}
+use Rattle.rendezvous_steps.specs.Plan.{is_offline, offline_count}
 use Rattle.ctl_words.proofs.Counts.{count_by-table}
 use Rattle.ctl_words.proofs.plans.Plan.offline.Goals as goal
 

@@ -1,5 +1,5 @@
 use Rattle.std.proofs.Common.{ap, ◌∙◌}
-use Rattle.rendezvous.specs.Words.{words_after}
+use Rattle.rendezvous_steps.specs.Words.{words_after}
 use Rattle.ctl_words.specs.Lists.{has_word, word_of}
 use Rattle.plain_rounds.specs.State.{State}
 use Rattle.plain_rounds.proofs.rounds.Rounds.apply.Goals as goal

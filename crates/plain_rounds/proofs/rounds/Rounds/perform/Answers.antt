@@ -1,10 +1,10 @@
 use Rattle.std.proofs.Common.{◌≡◌, ℕ, ◌<◌, refl, IfSome, IsTrue, subst, sym, ap, ◌∙◌}
-use Rattle.rendezvous.specs.declared.operations.Word.{Word}
-use Rattle.rendezvous.specs.declared.steps.Local.{Local}
-use Rattle.rendezvous.specs.declared.items.What.{What}
-use Rattle.rendezvous.specs.Events.{put}
-use Rattle.rendezvous.specs.Words.{touched, words_after}
-use Rattle.rendezvous.specs.StepTable.{after}
+use Rattle.rendezvous_steps.specs.declared.operations.Word.{Word}
+use Rattle.rendezvous_steps.specs.declared.steps.Local.{Local}
+use Rattle.rendezvous_steps.specs.declared.items.What.{What}
+use Rattle.rendezvous_steps.specs.Events.{put}
+use Rattle.rendezvous_steps.specs.Words.{touched, words_after}
+use Rattle.rendezvous_steps.specs.StepTable.{after}
 use Rattle.ctl_words.specs.Places.{is_word}
 use Rattle.ctl_words.specs.Plans.{plan_of}
 use Rattle.ctl_thread.proofs.Ranges.{words, place}

@@ -1,5 +1,5 @@
 use Rattle.std.proofs.Common.{sym, ap, ◌∙◌, Some, None}
-use Rattle.rendezvous.specs.StepTable.{operation}
+use Rattle.rendezvous_steps.specs.StepTable.{operation}
 use Rattle.ctl_words.specs.Plans.{plan_of}
 use Rattle.plain_rounds.specs.State.{running_of}
 use Rattle.plain_rounds.proofs.Changes.{steps-operation}

@@ -1,9 +1,9 @@
 -- How many threads have not arrived, and how many have, by the threads' own states. Thread 0 is left out of the first: its
 -- phase does not tell whether it gave up before it arrived.
 use Rattle.std.specs.Prelude.{ℕ, ◌&&◌, not, count_by}
-use Rattle.rendezvous.specs.declared.steps.Local.{Local}
-use Rattle.rendezvous.specs.Plan.{Plan, is_online, is_offline, threads_from}
-use Rattle.rendezvous.specs.Facets.{past_arriving, has_counted}
+use Rattle.rendezvous_steps.specs.declared.steps.Local.{Local}
+use Rattle.rendezvous_steps.specs.Plan.{Plan, is_online, is_offline, threads_from}
+use Rattle.rendezvous_rule.specs.Facets.{past_arriving, has_counted}
 
 -- the Online threads other than 0 that have not counted themselves in
 unfoldable pub awaited : Plan → (ℕ → Local) → ℕ

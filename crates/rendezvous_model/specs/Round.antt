@@ -2,10 +2,10 @@
 -- and for each group a place and a revision. Its state has no word, no phase, no counter and no poll. Sets of threads are
 -- tests on their numbers, and so is the decider, which is nobody or one thread.
 use Rattle.std.specs.Prelude.{ℕ, Bool, true, false, ◌&&◌, not, ◌==◌, count_by}
-use Rattle.rendezvous.specs.declared.steps.Kind.{Kind}
-use Rattle.rendezvous.specs.declared.steps.Kind.TheVariants.{Absent as KindAbsent}
-use Rattle.rendezvous.specs.declared.steps.ThreadResult.{ThreadResult}
-use Rattle.rendezvous.specs.Plan.{Plan, is_online, is_offline, threads_from}
+use Rattle.rendezvous_steps.specs.declared.steps.Kind.{Kind}
+use Rattle.rendezvous_steps.specs.declared.steps.Kind.TheVariants.{Absent as KindAbsent}
+use Rattle.rendezvous_steps.specs.declared.steps.ThreadResult.{ThreadResult}
+use Rattle.rendezvous_steps.specs.Plan.{Plan, is_online, is_offline, threads_from}
 
 -- where a thread is: it has not entered the handler, is in it, left with a result, halted in it, was withdrawn before it
 -- came, or takes no part

@@ -1,15 +1,15 @@
 -- Which state of the model the words and the threads' states stand for.
 use Rattle.std.specs.Prelude.{◌≡◌, ℕ, ◌-◌, ◌≤◌, Bool, true, false, ◌&&◌, ◌||◌, not, ◌==◌, nat_le, if◌then◌else◌}
-use Rattle.rendezvous.specs.declared.steps.Kind.{Kind}
-use Rattle.rendezvous.specs.declared.steps.Kind.TheVariants.{Online, Offline, Absent as KindAbsent}
-use Rattle.rendezvous.specs.declared.steps.Local.{Local}
-use Rattle.rendezvous.specs.Plan.{Plan}
-use Rattle.rendezvous.specs.Words.{Families, families}
-use Rattle.rendezvous.specs.StepTable.{result_of}
-use Rattle.rendezvous.specs.Events.{Running}
-use Rattle.rendezvous.specs.Facets.{past_arriving, has_counted, is_deciding, is_writing, past_writing}
-use Rattle.rendezvous.specs.Round.{Place, Out, In, Left, Halted, Withdrawn, Absent, Stage, Gathering, Going, DroppedByKick, DroppedBy, GroupPlace, Waiting, Writing, Written, Reported, State, still_awaited, offline_arrived}
-use Rattle.rendezvous.specs.Awaited.{awaited}
+use Rattle.rendezvous_steps.specs.declared.steps.Kind.{Kind}
+use Rattle.rendezvous_steps.specs.declared.steps.Kind.TheVariants.{Online, Offline, Absent as KindAbsent}
+use Rattle.rendezvous_steps.specs.declared.steps.Local.{Local}
+use Rattle.rendezvous_steps.specs.Plan.{Plan}
+use Rattle.rendezvous_steps.specs.Words.{Families, families}
+use Rattle.rendezvous_steps.specs.StepTable.{result_of}
+use Rattle.rendezvous_steps.specs.Events.{Running}
+use Rattle.rendezvous_rule.specs.Facets.{past_arriving, has_counted, is_deciding, is_writing, past_writing}
+use Rattle.rendezvous_model.specs.Round.{Place, Out, In, Left, Halted, Withdrawn, Absent, Stage, Gathering, Going, DroppedByKick, DroppedBy, GroupPlace, Waiting, Writing, Written, Reported, State, still_awaited, offline_arrived}
+use Rattle.rendezvous_rule.specs.Awaited.{awaited}
 
 -- where a thread is that has neither halted nor left, by its kind, its mode and its kick
 abbrev pub place_before_end : Kind → ℕ → ℕ → Place

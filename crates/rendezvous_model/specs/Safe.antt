@@ -1,9 +1,9 @@
 -- What is safe of a state of the model.
 use Rattle.std.specs.Prelude.{◌≡◌, ◌≢◌, ◌⊎◌, ℕ, Bool, true, false, ◌||◌, Some}
-use Rattle.rendezvous.specs.declared.steps.Kind.TheVariants.{Absent}
-use Rattle.rendezvous.specs.declared.steps.ThreadResult.TheVariants as results
-use Rattle.rendezvous.specs.Plan.{Plan}
-use Rattle.rendezvous.specs.Round.{GroupPlace, Waiting, Writing, Written, Reported, Left, State, is_held, is_halted, is_going}
+use Rattle.rendezvous_steps.specs.declared.steps.Kind.TheVariants.{Absent}
+use Rattle.rendezvous_steps.specs.declared.steps.ThreadResult.TheVariants as results
+use Rattle.rendezvous_steps.specs.Plan.{Plan}
+use Rattle.rendezvous_model.specs.Round.{GroupPlace, Waiting, Writing, Written, Reported, Left, State, is_held, is_halted, is_going}
 
 abbrev pub is_in_write : GroupPlace → Bool
 is_in_write Writing = true

@@ -1,12 +1,12 @@
 -- The steps of the model by which threads leave, halt, wait and run ordinary code: the condition of each and its change.
 use Rattle.std.specs.Prelude.{◌≡◌, ℕ, Bool, true, false, ◌&&◌, ◌||◌, not, ◌==◌, Option, Some, None}
-use Rattle.rendezvous.specs.declared.steps.Kind.{Kind}
-use Rattle.rendezvous.specs.declared.steps.Kind.TheVariants.{Online, Offline}
-use Rattle.rendezvous.specs.declared.steps.ThreadResult.{ThreadResult}
-use Rattle.rendezvous.specs.declared.steps.ThreadResult.TheVariants as results
-use Rattle.rendezvous.specs.Plan.{Plan, is_primary, is_sibling}
-use Rattle.rendezvous.specs.Events.{put}
-use Rattle.rendezvous.specs.Round.{Place, Out, In, Left, Halted, Withdrawn, Absent, Stage, Gathering, Going, GroupPlace, Reported, State, Cause, Step, Timeout, Nmi, Run, is_out, is_halted, is_withdrawn, has_left, is_held, is_going, is_dropped}
+use Rattle.rendezvous_steps.specs.declared.steps.Kind.{Kind}
+use Rattle.rendezvous_steps.specs.declared.steps.Kind.TheVariants.{Online, Offline}
+use Rattle.rendezvous_steps.specs.declared.steps.ThreadResult.{ThreadResult}
+use Rattle.rendezvous_steps.specs.declared.steps.ThreadResult.TheVariants as results
+use Rattle.rendezvous_steps.specs.Plan.{Plan, is_primary, is_sibling}
+use Rattle.rendezvous_steps.specs.Events.{put}
+use Rattle.rendezvous_model.specs.Round.{Place, Out, In, Left, Halted, Withdrawn, Absent, Stage, Gathering, Going, GroupPlace, Reported, State, Cause, Step, Timeout, Nmi, Run, is_out, is_halted, is_withdrawn, has_left, is_held, is_going, is_dropped}
 
 -- It leaves, in one of four ways.
 

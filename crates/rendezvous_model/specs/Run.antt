@@ -1,12 +1,12 @@
 -- Runs of the model over the events of a schedule, with one item for each event until no thread is unfinished.
 use Rattle.std.specs.Prelude.{◌≡◌, ◌⊎◌, ℕ, ◌+◌, ◌*◌, ◌<◌, ◌≤◌, Bool, true, false, ◌&&◌, ◌==◌, List, length, Some, slice_get, count_by}
-use Rattle.rendezvous.specs.declared.items.What.{What}
-use Rattle.rendezvous.specs.declared.items.What.TheVariants as what
-use Rattle.rendezvous.specs.declared.items.Event.{Event}
-use Rattle.rendezvous.specs.declared.items.Item.{Item}
-use Rattle.rendezvous.specs.Plan.{Plan}
-use Rattle.rendezvous.specs.Round.{State, opening_state, unfinished_count}
-use Rattle.rendezvous.specs.RoundStep.{Round, thread_of}
+use Rattle.rendezvous_steps.specs.declared.items.What.{What}
+use Rattle.rendezvous_steps.specs.declared.items.What.TheVariants as what
+use Rattle.rendezvous_steps.specs.declared.items.Event.{Event}
+use Rattle.rendezvous_steps.specs.declared.items.Item.{Item}
+use Rattle.rendezvous_steps.specs.Plan.{Plan}
+use Rattle.rendezvous_model.specs.Round.{State, opening_state, unfinished_count}
+use Rattle.rendezvous_model.specs.RoundStep.{Round, thread_of}
 
 -- An item, and the event that it answers, between the state before and the state after. Some thread was unfinished before.
 pub record Answered (plan : Plan) (event : Event) (item : Item) (before after : State) : Type 0 where

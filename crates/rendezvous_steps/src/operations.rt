@@ -1,7 +1,7 @@
 //! The words that threads share, and the operations on them.
 
 ghost use Rattle.std.specs.Prelude.{◌≡◌};
-ghost use Rattle.rendezvous.specs.Words.{touched, written};
+ghost use Rattle.rendezvous_steps.specs.Words.{touched, written};
 
 /// A control word. A thread's words are Mode, Ctrl and Nmi with its number, a group's are Rev and Res.
 #[derive(Clone, Copy, Debug, PartialEq, Eq)]

@@ -1,11 +1,11 @@
 -- What a load answers for an outcome: the first that holds, and else Done.
 use Rattle.std.specs.Prelude.{◌≡◌, ◌<◌, ◌≤◌, ℕ, ◌-◌, Bool, true, false, ◌&&◌, ◌==◌, nat_le, List, [], ◌∷◌, Option, Some, None, unwrap_or, option_map, count_by, find, get_or}
 use Rattle.std.specs.List.{list_any}
-use Rattle.rendezvous.specs.declared.steps.ThreadResult.TheVariants as results
-use Rattle.rendezvous.specs.declared.ends.End.{End}
-use Rattle.rendezvous.specs.declared.ends.End.TheVariants as ends
-use Rattle.rendezvous.specs.Plan.{Plan, is_primary, threads_from}
-use Rattle.rendezvous.specs.Outcome.{Outcome}
+use Rattle.rendezvous_steps.specs.declared.steps.ThreadResult.TheVariants as results
+use Rattle.rendezvous_steps.specs.declared.ends.End.{End}
+use Rattle.rendezvous_steps.specs.declared.ends.End.TheVariants as ends
+use Rattle.rendezvous_steps.specs.Plan.{Plan, is_primary, threads_from}
+use Rattle.rendezvous_model.specs.Outcome.{Outcome}
 
 -- the numbers are those of threads, and of OfflineSilent that of the kicks that were taken back
 pub data Verdict : Type 0 where

@@ -1,8 +1,8 @@
 -- What a plan's tables hold past their end. With these values a rule over every thread and every group needs no premise
 -- that a number is in range.
 use Rattle.std.specs.Prelude.{◌≡◌, ℕ, ◌≤◌, None}
-use Rattle.rendezvous.specs.declared.steps.Kind.TheVariants.{Absent}
-use Rattle.rendezvous.specs.Plan.{Plan}
+use Rattle.rendezvous_steps.specs.declared.steps.Kind.TheVariants.{Absent}
+use Rattle.rendezvous_steps.specs.Plan.{Plan}
 
 pub record Padded (plan : Plan) : Type 0 where
   pub no_thread : (t : ℕ) → plan.threads ≤ t → plan.kind t ≡ Absent

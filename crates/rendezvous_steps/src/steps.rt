@@ -1,8 +1,8 @@
 //! What a thread of a load is, where it stands, and what it ends with.
 
 ghost use Rattle.std.specs.Prelude.{◌≡◌};
-ghost use Rattle.rendezvous.specs.Plan.{is_online, is_offline, is_absent};
-ghost use Rattle.rendezvous.specs.StepTable.{number_of, result_of};
+ghost use Rattle.rendezvous_steps.specs.Plan.{is_online, is_offline, is_absent};
+ghost use Rattle.rendezvous_steps.specs.StepTable.{number_of, result_of};
 
 /// What a thread is when a load begins.
 #[derive(Clone, Copy, Debug, Default, PartialEq, Eq)]

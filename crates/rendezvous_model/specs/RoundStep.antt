@@ -1,13 +1,13 @@
 -- One step of the model: an event at a thread, and what comes of it.
 use Rattle.std.specs.Prelude.{◌≡◌, ℕ, true, if◌then◌else◌}
-use Rattle.rendezvous.specs.declared.items.What.{What}
-use Rattle.rendezvous.specs.declared.items.What.TheVariants as what
-use Rattle.rendezvous.specs.declared.items.Event.{Event}
-use Rattle.rendezvous.specs.declared.items.Event.TheVariants as event
-use Rattle.rendezvous.specs.Plan.{Plan}
-use Rattle.rendezvous.specs.Round.{State, Cause, Step, Timeout, Nmi, Run, is_own, is_held}
-use Rattle.rendezvous.specs.RoundItems.{Enters, Kicks, Arrives, Goes, Drops, DropsByKick, Withdraws, Begins, Writes, Reports, Frees}
-use Rattle.rendezvous.specs.RoundEnds.{Leaves, Halts, Polls, StaysIn, RunsOrdinary, Latches, Idles}
+use Rattle.rendezvous_steps.specs.declared.items.What.{What}
+use Rattle.rendezvous_steps.specs.declared.items.What.TheVariants as what
+use Rattle.rendezvous_steps.specs.declared.items.Event.{Event}
+use Rattle.rendezvous_steps.specs.declared.items.Event.TheVariants as event
+use Rattle.rendezvous_steps.specs.Plan.{Plan}
+use Rattle.rendezvous_model.specs.Round.{State, Cause, Step, Timeout, Nmi, Run, is_own, is_held}
+use Rattle.rendezvous_model.specs.RoundItems.{Enters, Kicks, Arrives, Goes, Drops, DropsByKick, Withdraws, Begins, Writes, Reports, Frees}
+use Rattle.rendezvous_model.specs.RoundEnds.{Leaves, Halts, Polls, StaysIn, RunsOrdinary, Latches, Idles}
 
 -- an attempt to run ordinary code is a step of a thread that is held
 abbrev pub cause_of : State → Event → Cause

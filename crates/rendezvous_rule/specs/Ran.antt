@@ -1,23 +1,23 @@
 -- What a run as a whole comes to: where it lists its items, those that the step table gives for the schedule, their lines and
 -- the outcome that they lead to; where it does not, what holds of every outcome.
 use Rattle.std.specs.Prelude.{◌≡◌, ◌≢◌, ◌⊎◌, ◌↔◌, ℕ, zero, suc, ◌+◌, ◌-◌, ◌<◌, ◌≤◌, Bool, true, false, List, [], ◌∷◌, ◌++◌, length, map, Option, Some, None, slice_get, slice_index, flat_map}
-use Rattle.rendezvous.specs.declared.steps.Kind.TheVariants.{Online, Offline, Absent}
-use Rattle.rendezvous.specs.declared.steps.ThreadResult.{ThreadResult}
-use Rattle.rendezvous.specs.declared.steps.ThreadResult.TheVariants as results
-use Rattle.rendezvous.specs.declared.items.Event.{Event}
-use Rattle.rendezvous.specs.declared.items.Event.TheVariants as event
-use Rattle.rendezvous.specs.declared.items.Item.{Item}
-use Rattle.rendezvous.specs.declared.ends.Beat.{Beat}
-use Rattle.rendezvous.specs.declared.ends.Beat.TheVariants.{One, Rounds}
-use Rattle.rendezvous.specs.declared.ends.End.{End}
-use Rattle.rendezvous.specs.declared.ends.End.TheVariants as ends
-use Rattle.rendezvous.specs.Plan.{Plan, is_primary, threads_from, online_count, offline_count}
-use Rattle.rendezvous.specs.Events.{Running, opening_running, happens}
-use Rattle.rendezvous.specs.RoundEnds.{okay_for}
-use Rattle.rendezvous.specs.Shown.{shown_by}
-use Rattle.rendezvous.specs.Run.{Run, FewInner}
-use Rattle.rendezvous.specs.Outcome.{Outcome, OutcomeShows}
-use Rattle.rendezvous.specs.Verdict.{end_at}
+use Rattle.rendezvous_steps.specs.declared.steps.Kind.TheVariants.{Online, Offline, Absent}
+use Rattle.rendezvous_steps.specs.declared.steps.ThreadResult.{ThreadResult}
+use Rattle.rendezvous_steps.specs.declared.steps.ThreadResult.TheVariants as results
+use Rattle.rendezvous_steps.specs.declared.items.Event.{Event}
+use Rattle.rendezvous_steps.specs.declared.items.Event.TheVariants as event
+use Rattle.rendezvous_steps.specs.declared.items.Item.{Item}
+use Rattle.rendezvous_steps.specs.declared.ends.Beat.{Beat}
+use Rattle.rendezvous_steps.specs.declared.ends.Beat.TheVariants.{One, Rounds}
+use Rattle.rendezvous_steps.specs.declared.ends.End.{End}
+use Rattle.rendezvous_steps.specs.declared.ends.End.TheVariants as ends
+use Rattle.rendezvous_steps.specs.Plan.{Plan, is_primary, threads_from, online_count, offline_count}
+use Rattle.rendezvous_steps.specs.Events.{Running, opening_running, happens}
+use Rattle.rendezvous_model.specs.RoundEnds.{okay_for}
+use Rattle.rendezvous_rule.specs.Shown.{shown_by}
+use Rattle.rendezvous_model.specs.Run.{Run, FewInner}
+use Rattle.rendezvous_model.specs.Outcome.{Outcome, OutcomeShows}
+use Rattle.rendezvous_model.specs.Verdict.{end_at}
 
 -- The events of a schedule.
 

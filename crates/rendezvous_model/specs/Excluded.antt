@@ -1,10 +1,10 @@
 -- From a group's begin until its report no thread of it runs ordinary code, told by the items alone.
 use Rattle.std.specs.Prelude.{◌≡◌, ◌≢◌, ℕ, Bool, true, false, ◌==◌, if◌then◌else◌, List, Some, slice_get, take, fold}
-use Rattle.rendezvous.specs.declared.steps.Kind.TheVariants.{Absent}
-use Rattle.rendezvous.specs.declared.items.What.{What}
-use Rattle.rendezvous.specs.declared.items.What.TheVariants as what
-use Rattle.rendezvous.specs.declared.items.Item.{Item}
-use Rattle.rendezvous.specs.Plan.{Plan}
+use Rattle.rendezvous_steps.specs.declared.steps.Kind.TheVariants.{Absent}
+use Rattle.rendezvous_steps.specs.declared.items.What.{What}
+use Rattle.rendezvous_steps.specs.declared.items.What.TheVariants as what
+use Rattle.rendezvous_steps.specs.declared.items.Item.{Item}
+use Rattle.rendezvous_steps.specs.Plan.{Plan}
 
 -- A thread is inside from its Enter until its Leave. One that halts stays inside.
 

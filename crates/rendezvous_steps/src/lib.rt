@@ -4,21 +4,16 @@
 //! writes while its siblings wait on control words of their own, and soft-offline siblings are kicked into the
 //! handler and held there. Go or drop is decided by one exchange on one word, which is this project's own choice.
 //!
-//! The crate has the plain types that contracts speak of, and in `specs/` the definitions over them:
+//! The crate has the plain types that contracts speak of, and in `specs/` what the threads do:
 //!
-//! - `Plan`: what a load sets out with, as functions of thread and group numbers, and when a plan is sound.
+//! - `Plan`: what a load sets out with, as functions of thread and group numbers, and when a plan is sound. `Padded`: what
+//!   a plan's tables hold past their end.
 //! - `Words`: the control words, and what one operation leaves of them.
 //! - `StepTable`: the operation of a thread in each phase, and the next phase and the item for each old value.
 //! - `Events`: what an event of a schedule does.
-//! - `Round`, `RoundItems`, `RoundEnds`, `RoundStep`: the model, with sets of threads and one stage, and its steps.
-//! - `Run`: a run of the model over the events of a schedule. `Excluded`: no thread of a group runs ordinary code while the
-//!   group is written.
-//! - `Shown`: the state of the model that words and threads' states stand for. `Rule`: what holds of these between two
-//!   steps, by way of `Facets`, `Kinds` and `Awaited`; `Padded`: what a plan's tables hold past their end. `Safe`: what is
-//!   safe of a state.
-//! - `Outcome`: what is left of a rendezvous. `Verdict`: what a load answers for it. `Ran`: what a run as a whole comes to.
 //!
-//! Its code converts numbers and names, and decides nothing.
+//! What a rendezvous is, with no word and no phase, says `rendezvous_model`; what holds of words and threads between two
+//! steps says `rendezvous_rule`. The code here converts numbers and names, and decides nothing.
 #![tactic(auto)]
 
 mod ends;

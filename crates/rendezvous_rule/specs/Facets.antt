@@ -1,9 +1,9 @@
 -- What a thread's state says to others: small tests of its phase, of where its loop is and of its result. Words and other
 -- threads' rules read a thread's state through these alone.
 use Rattle.std.specs.Prelude.{ℕ, Bool, true, false, not, ◌==◌, nat_lt, nat_le}
-use Rattle.rendezvous.specs.declared.steps.Phase.{Phase}
-use Rattle.rendezvous.specs.declared.steps.Phase.TheVariants.{Outside, Kicking, OfflineWait, Arriving, Deciding, Reading, Beginning, Writing, Checking, Reporting, Freeing, SiblingWait, SiblingCheck, SiblingCopy, Withdrawing, Releasing, OfflineHold, Leaving, Left, Halted, Withdrawn, Nothing}
-use Rattle.rendezvous.specs.declared.steps.Local.{Local}
+use Rattle.rendezvous_steps.specs.declared.steps.Phase.{Phase}
+use Rattle.rendezvous_steps.specs.declared.steps.Phase.TheVariants.{Outside, Kicking, OfflineWait, Arriving, Deciding, Reading, Beginning, Writing, Checking, Reporting, Freeing, SiblingWait, SiblingCheck, SiblingCopy, Withdrawing, Releasing, OfflineHold, Leaving, Left, Halted, Withdrawn, Nothing}
+use Rattle.rendezvous_steps.specs.declared.steps.Local.{Local}
 
 -- Of a phase.
 

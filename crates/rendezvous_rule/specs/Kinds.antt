@@ -1,7 +1,7 @@
 -- Which phases stand at which threads.
 use Rattle.std.specs.Prelude.{Bool, true, false}
-use Rattle.rendezvous.specs.declared.steps.Phase.{Phase}
-use Rattle.rendezvous.specs.declared.steps.Phase.TheVariants.{Outside, Kicking, OfflineWait, Beginning, Writing, Checking, Reading, Reporting, Freeing, SiblingWait, SiblingCheck, SiblingCopy, Withdrawing, Releasing, OfflineCount, OfflineHold, Leaving, Left, Halted, Withdrawn, Nothing}
+use Rattle.rendezvous_steps.specs.declared.steps.Phase.{Phase}
+use Rattle.rendezvous_steps.specs.declared.steps.Phase.TheVariants.{Outside, Kicking, OfflineWait, Beginning, Writing, Checking, Reading, Reporting, Freeing, SiblingWait, SiblingCheck, SiblingCopy, Withdrawing, Releasing, OfflineCount, OfflineHold, Leaving, Left, Halted, Withdrawn, Nothing}
 
 -- of an Online thread
 unfoldable pub is_online_phase : Phase → Bool

@@ -1,10 +1,10 @@
 -- What is left of a rendezvous: the decision, each thread's end and each group's revision.
 use Rattle.std.specs.Prelude.{◌≡◌, ℕ, ◌+◌, List, map}
 use Rattle.std.specs.List.{range_with_len}
-use Rattle.rendezvous.specs.declared.ends.End.{End}
-use Rattle.rendezvous.specs.declared.ends.End.TheVariants as ends
-use Rattle.rendezvous.specs.Plan.{Plan, threads_from}
-use Rattle.rendezvous.specs.Round.{Place, Out, In, Left, Halted, Withdrawn, Absent, Stage, Gathering, Going, DroppedByKick, DroppedBy, State}
+use Rattle.rendezvous_steps.specs.declared.ends.End.{End}
+use Rattle.rendezvous_steps.specs.declared.ends.End.TheVariants as ends
+use Rattle.rendezvous_steps.specs.Plan.{Plan, threads_from}
+use Rattle.rendezvous_model.specs.Round.{Place, Out, In, Left, Halted, Withdrawn, Absent, Stage, Gathering, Going, DroppedByKick, DroppedBy, State}
 
 pub record Outcome : Type 0 where
   pub decide : ℕ

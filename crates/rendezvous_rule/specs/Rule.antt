@@ -1,16 +1,16 @@
 -- What holds of the words and the threads' states between any two steps. Every word but the three counters is an equation on
 -- the threads' states; what a word or another thread reads of a state is one of its facets.
 use Rattle.std.specs.Prelude.{◌≡◌, ◌≢◌, ◌⊎◌, ℕ, ◌+◌, ◌-◌, ◌<◌, ◌≤◌, Bool, true, false, ◌&&◌, ◌||◌, not, ◌==◌, if◌then◌else◌, is_some, unwrap_or}
-use Rattle.rendezvous.specs.declared.steps.Kind.{Kind}
-use Rattle.rendezvous.specs.declared.steps.Kind.TheVariants.{Online, Offline, Absent}
-use Rattle.rendezvous.specs.declared.steps.Phase.{Phase}
-use Rattle.rendezvous.specs.declared.steps.Phase.TheVariants as phase
-use Rattle.rendezvous.specs.declared.steps.Local.{Local}
-use Rattle.rendezvous.specs.Plan.{Plan, is_offline, is_absent, is_primary, is_sibling, online_count, offline_count}
-use Rattle.rendezvous.specs.Words.{Families}
-use Rattle.rendezvous.specs.Facets.{past_arriving, has_come, is_deciding, is_halted, on_go, on_drop, ends_on_go, shows_write, past_writing, past_reporting, past_freeing, has_kicked, has_withdrawn, has_released}
-use Rattle.rendezvous.specs.Kinds.{is_online_phase, is_offline_phase, is_zero_phase, names_offline, is_primary_phase, needs_offer, is_sibling_phase, knows_result}
-use Rattle.rendezvous.specs.Awaited.{awaited, counted}
+use Rattle.rendezvous_steps.specs.declared.steps.Kind.{Kind}
+use Rattle.rendezvous_steps.specs.declared.steps.Kind.TheVariants.{Online, Offline, Absent}
+use Rattle.rendezvous_steps.specs.declared.steps.Phase.{Phase}
+use Rattle.rendezvous_steps.specs.declared.steps.Phase.TheVariants as phase
+use Rattle.rendezvous_steps.specs.declared.steps.Local.{Local}
+use Rattle.rendezvous_steps.specs.Plan.{Plan, is_offline, is_absent, is_primary, is_sibling, online_count, offline_count}
+use Rattle.rendezvous_steps.specs.Words.{Families}
+use Rattle.rendezvous_rule.specs.Facets.{past_arriving, has_come, is_deciding, is_halted, on_go, on_drop, ends_on_go, shows_write, past_writing, past_reporting, past_freeing, has_kicked, has_withdrawn, has_released}
+use Rattle.rendezvous_rule.specs.Kinds.{is_online_phase, is_offline_phase, is_zero_phase, names_offline, is_primary_phase, needs_offer, is_sibling_phase, knows_result}
+use Rattle.rendezvous_rule.specs.Awaited.{awaited, counted}
 
 -- What the words are.
 

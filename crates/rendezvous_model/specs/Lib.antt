@@ -1,0 +1,9 @@
+pub mod Round
+pub mod RoundItems
+pub mod RoundEnds
+pub mod RoundStep
+pub mod Safe
+pub mod Run
+pub mod Excluded
+pub mod Outcome
+pub mod Verdict

@@ -1,0 +1,6 @@
+pub mod Facets
+pub mod Kinds
+pub mod Awaited
+pub mod Shown
+pub mod Rule
+pub mod Ran

@@ -1,0 +1,5 @@
+pub mod Plan
+pub mod Padded
+pub mod Words
+pub mod StepTable
+pub mod Events
