@@ -1,0 +1,4 @@
+pub mod Hardware
+pub mod Calls
+pub mod BringUps
+pub mod Laws

@@ -1,0 +1,14 @@
+//! Laws of the definitions: each is the contract of a function that does nothing.
+
+ghost use Rattle.machine_steps.specs.Laws.{CallsNeverLower, BringUpsNeverLower, RefusalsKeep};
+
+/// No call but suspend lets the revision of a group fall, and no bring-up does.
+pub fn only_suspend_lets_a_revision_fall()
+    ensures calls { CallsNeverLower }
+    ensures bring_ups { BringUpsNeverLower }
+{}
+
+/// A refusal leaves the machine as it was.
+pub fn a_refusal_changes_nothing()
+    ensures { RefusalsKeep }
+{}
