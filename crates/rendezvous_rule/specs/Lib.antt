@@ -4,3 +4,4 @@ pub mod Awaited
 pub mod Shown
 pub mod Rule
 pub mod Ran
+pub mod Runs

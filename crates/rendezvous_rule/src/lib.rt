@@ -2,5 +2,5 @@
 //!
 //! - `Shown`: the state of the model that words and threads' states stand for.
 //! - `Rule`: what holds of these between any two steps, by way of `Facets`, `Kinds` and `Awaited`.
-//! - `Ran`: what a run as a whole comes to.
+//! - `Ran`: what a run as a whole comes to. `Runs`: the laws on whole runs.
 #![tactic(auto)]

@@ -13,9 +13,10 @@ pub enum Beat {
 }
 
 /// How a thread came out of a rendezvous.
-#[derive(Clone, Copy, Debug, PartialEq, Eq)]
+#[derive(Clone, Copy, Debug, Default, PartialEq, Eq)]
 pub enum End {
     /// It took no part.
+    #[default]
     Absent,
     /// It left the handler with this result.
     Left(ThreadResult),

@@ -1,0 +1,13 @@
+//! A rendezvous as a whole: what a run of it promises, and a core that plays a schedule event by event.
+//!
+//! A session is written over the trait `Rendezvous`. Its contract is `Ran` of `rendezvous_rule`, and its two laws say that
+//! every sound plan has a run and that no revision falls in one.
+#![tactic(auto)]
+
+mod outcomes;
+mod runs;
+
+pub use ctl_words::Plan;
+pub use outcomes::Outcome;
+pub use rendezvous_steps::{Beat, End, Event, Item, ThreadResult, What};
+pub use runs::{Rendezvous, RunAnswer};
