@@ -9,7 +9,9 @@ ghost use Rattle.rendezvous_steps.specs.StepTable.{operation, opening};
 ghost use Rattle.rendezvous_steps.specs.Words.{touched, words_after};
 ghost use Rattle.ctl_words.specs.Lists.{has_word, word_of};
 ghost use Rattle.ctl_words.specs.Plans.{plan_of, IsSound};
-ghost use Rattle.plain_rounds.specs.State.{running_of, Fits, thread_of, has_unfinished};
+ghost use Rattle.rendezvous_model.specs.RoundStep.{thread_of};
+ghost use Rattle.rendezvous_runs.specs.Play.{has_unfinished};
+ghost use Rattle.plain_rounds.specs.State.{running_of, Fits};
 
 use ctl_thread::{after, next, opening};
 use ctl_words::{PlainWords, Plan, Words};

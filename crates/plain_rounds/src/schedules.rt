@@ -2,7 +2,9 @@
 
 ghost use Rattle.std.specs.Prelude.{◌≡◌, ◌<◌, ◌↔◌, All, IfOk, IsTrue};
 ghost use Rattle.ctl_words.specs.Plans.{plan_of, IsSound};
-ghost use Rattle.plain_rounds.specs.State.{thread_of, items_of};
+ghost use Rattle.rendezvous_steps.specs.Events.{opening_running};
+ghost use Rattle.rendezvous_model.specs.RoundStep.{thread_of};
+ghost use Rattle.rendezvous_runs.specs.Play.{play};
 
 use crate::rounds::Rounds;
 use ctl_words::Plan;
@@ -15,7 +17,7 @@ use uc_bytes::NoMemory;
 pub fn run(alloc: Global, plan: &Plan, events: &[Event]) -> Result<Vec<Item>, NoMemory>
     requires sound { IsSound plan.now }
     requires in_range { All (λ event. thread_of event < plan.now.threads) events.now }
-    ensures { IfOk result (λ items. items.items ≡ items_of (plan_of plan.now) events.now) }
+    ensures { IfOk result (λ items. items.items ≡ play (plan_of plan.now) (opening_running (plan_of plan.now)) events.now) }
 {
     let mut rounds = Rounds::new(alloc, plan)?;
     let mut items = Vec::new(alloc);
