@@ -10,7 +10,7 @@
 //! - `BringUps`: what a thread that comes up writes, and what several do one after the other.
 //! - `Laws`: which calls let a revision fall, and what a refusal leaves.
 //!
-//! Its code decides nothing.
+//! Its code tells what a thread's state is, and decides nothing.
 #![tactic(auto)]
 
 mod answers;

@@ -1,0 +1,2 @@
+mod Cold
+mod Opening
