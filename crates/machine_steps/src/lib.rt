@@ -8,6 +8,7 @@
 //! - `Hardware`: what the machine is made of, and the state that it is in, as functions of thread and group numbers.
 //! - `Calls`: each call of the machine, its refusals in their order and then its change.
 //! - `BringUps`: what a thread that comes up writes, and what several do one after the other.
+//! - `Puts`: where the patches of a boot or a load are put, and which of them stay.
 //! - `Laws`: which calls let a revision fall, and what a refusal leaves.
 //!
 //! Its code tells what a thread's state is, and decides nothing.
