@@ -8,7 +8,7 @@ use Rattle.std.proofs.lemmas.List.{get_or_past, get_or-map, length-map}
 use Rattle.std.proofs.lemmas.List.FromFn.{get_or-map-range_with_len, length-map-range_with_len}
 use Rattle.std.proofs.lemmas.List.Sums.{position_or_len_is}
 use Rattle.uc_topology.specs.Stated.{Stated, AreGroups, core_at, group_of, group_count, group_facts, first_core, no_core, thread_groups}
-use Rattle.machine_steps.specs.Hardware.{Setting, stated_setting}
+use Rattle.machine_steps.specs.Hardware.{Setting, setting_of as stated_setting}
 
 -- past the last group no core is of it
 none_past : (stated : Stated) → AreGroups stated → (g : ℕ) → group_count stated.cores ≤ g → first_core stated.cores g ≡ length stated.cores

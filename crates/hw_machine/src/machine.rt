@@ -3,7 +3,7 @@
 ghost use Rattle.std.specs.Prelude.{◌≡◌, ℕ, ◌<◌, ◌≤◌, length, All, Ok, IsTrue, true};
 ghost use Rattle.machine_steps.specs.declared.states.Power.TheVariants.{On};
 ghost use Rattle.machine_steps.specs.declared.states.ThreadState.TheVariants.{Up};
-ghost use Rattle.machine_steps.specs.Hardware.{stated_setting, switched_off, all_cold, is_on, with_thread, with_refusal, with_rev};
+ghost use Rattle.machine_steps.specs.Hardware.{setting_of as stated_setting, switched_off, all_cold, is_on, with_thread, with_refusal, with_rev};
 ghost use Rattle.machine_steps.specs.Calls.{power_on, soft_offline, may_come_up, suspend, wake, Answers};
 
 use crate::tables::{copied, filled, firmware_revisions, groups_of, up_threads};

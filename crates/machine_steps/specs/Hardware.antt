@@ -16,8 +16,8 @@ pub record Setting : Type 0 where
   pub bios : ℕ → ℕ
 
 -- the setting of the machine that a topology states
-abbrev pub stated_setting : Stated → Setting
-stated_setting stated =
+abbrev pub setting_of : Stated → Setting
+setting_of stated =
     record {
       threads = length stated.threads;
       groups = group_count stated.cores;
