@@ -1,5 +1,5 @@
 -- The lines of a text, and the words of a line.
-use Rattle.std.specs.Prelude.{ℕ, Bool, true, false, ◌||◌, not, List, [], ◌∷◌, map, filter, ◌==◌}
+use Rattle.std.specs.Prelude.{ℕ, Bool, true, false, ◌||◌, ◌&&◌, not, List, [], ◌∷◌, length, map, filter, slice_index, nat_lt, ◌==◌}
 use Rattle.std.specs.List.{slice_split, enumerate_from}
 use Rattle.std.specs.Str.Lines.{strip_carriage_return}
 
@@ -36,3 +36,11 @@ has_bytes (byte ∷ bytes) = true
 -- the longest runs of bytes other than space and tab
 unfoldable pub words_of : List ℕ → List (List ℕ)
 words_of text = filter has_bytes (slice_split is_blank text)
+
+-- a line with words that is no comment, which `#` begins
+abbrev pub counts : ℕ × List ℕ → Bool
+counts line = nat_lt 0 (length (words_of line.1)) && not (slice_index line.1 0 == 35)
+
+-- the lines of a text that count, with their numbers among all its lines
+abbrev pub counted_lines : List ℕ → List (ℕ × List ℕ)
+counted_lines bytes = filter counts (numbered_lines bytes)

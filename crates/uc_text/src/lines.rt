@@ -1,8 +1,8 @@
-ghost use Rattle.std.specs.Prelude.{◌≡◌, ◌+◌, ◌≤◌, length, take, drop};
+ghost use Rattle.std.specs.Prelude.{◌≡◌, ◌+◌, ◌≤◌, ◌∷◌, [], length, take, drop, filter, MatchOption};
 ghost use Rattle.std.specs.Iterator.{YieldsFirstBy, item_count};
 ghost use Rattle.std.specs.List.{position_or_len};
 ghost use Rattle.std.specs.Str.Lines.{strip_carriage_return};
-ghost use Rattle.uc_text.specs.Lines.{is_line_feed, is_blank, is_in_word, numbered_lines, words_of};
+ghost use Rattle.uc_text.specs.Lines.{is_line_feed, is_blank, is_in_word, numbered_lines, words_of, counts};
 
 use std::marker::Model;
 
@@ -44,6 +44,24 @@ impl<'a> Lines<'a> {
             number: 1,
         }
     }
+
+    /// The next line that counts: those without words, and those that begin with `#`, are passed over.
+    pub fn next_counted(&mut self) -> Option<Line<'a>>
+        ensures { MatchOption result ((filter counts self.old ≡ []) × (filter counts self.new ≡ [])) (λ line. filter counts self.old ≡ (line.number, line.text.now) ∷ filter counts self.new) }
+    {
+        while let Some(line) = self.next() {
+            if counts(&line) {
+                return Some(line);
+            }
+        }
+        None
+    }
+}
+
+fn counts(line: &Line) -> bool
+    ensures { result ≡ counts (line.now.number, line.now.text.now) }
+{
+    Words::new(line.text).next().is_some() && line.text.first() != Some(&b'#')
 }
 
 impl<'a> Iterator for Lines<'a> {

@@ -1,0 +1,3 @@
+pub mod FormsFound
+pub mod Kept
+pub mod OneReading
