@@ -5,3 +5,6 @@ pub mod Events
 pub mod Sums
 pub mod Ranks
 pub mod Few
+pub mod Model
+pub mod Fronts
+pub mod SafeRuns
