@@ -1,9 +1,12 @@
 //! A rendezvous as a whole: what a run of it promises, and a core that plays a schedule event by event.
 //!
 //! A session is written over the trait `Rendezvous`. Its contract is `Ran` of `rendezvous_rule`, and its two laws say that
-//! every sound plan has a run and that no revision falls in one.
+//! every sound plan has a run and that no revision falls in one. `Core` does one event after another, each as `happens` of
+//! `rendezvous_steps` says, in constant work and without memory.
 #![tactic(auto)]
 
+mod looks;
+mod moments;
 mod outcomes;
 mod runs;
 

@@ -1,0 +1,4 @@
+pub mod Counting
+pub mod Changes
+pub mod Small
+pub mod Revisions

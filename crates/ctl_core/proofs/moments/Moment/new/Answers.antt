@@ -1,0 +1,31 @@
+use Rattle.ctl_words.specs.Plans.{plan_of}
+use Rattle.ctl_core.proofs.Changes.{Fits-opening, running-opening, past_end}
+use Rattle.ctl_core.proofs.moments.Moment.new.Goals as goal
+
+pub returns-clause-fits : goal.returns-clause-fits
+returns-clause-fits c =
+    Fits-opening (plan_of c.args.plan.now) _
+    record {
+      some_thread = c.requires.tables.some_thread;
+      past = past_end c.args.plan.now c.requires;
+      known = c.in_ok-words.ensures.words;
+      words = c.in_ok-words.ensures.opening;
+      locals = c.in_ok-locals.ensures;
+      latched = c.in_ok-latched.ensures;
+      small = record { first = c.revisions_are_small.ensures.first; writes = c.revisions_are_small.ensures.writes };
+      counted = c.unfinished.ensures;
+    }
+
+pub returns-clause-opening : goal.returns-clause-opening
+returns-clause-opening c =
+    running-opening (plan_of c.args.plan.now) _
+    record {
+      some_thread = c.requires.tables.some_thread;
+      past = past_end c.args.plan.now c.requires;
+      known = c.in_ok-words.ensures.words;
+      words = c.in_ok-words.ensures.opening;
+      locals = c.in_ok-locals.ensures;
+      latched = c.in_ok-latched.ensures;
+      small = record { first = c.revisions_are_small.ensures.first; writes = c.revisions_are_small.ensures.writes };
+      counted = c.unfinished.ensures;
+    }

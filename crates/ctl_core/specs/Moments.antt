@@ -1,0 +1,56 @@
+-- A moment of a rendezvous, seen as its lists, and the moment of the definition that they stand for.
+use Rattle.std.specs.Prelude.{◌≡◌, ℕ, ◌<◌, ◌^◌, Bool, false, not, List, length, slice_get, unwrap_or, count_by, Option, Some, None}
+use Rattle.rendezvous_steps.specs.declared.steps.Phase.TheVariants.{Nothing}
+use Rattle.rendezvous_steps.specs.declared.steps.Local.{Local}
+use Rattle.rendezvous_steps.specs.declared.operations.Word.{Word}
+use Rattle.rendezvous_steps.specs.declared.operations.Word.TheVariants.{Mode, Ctrl, Nmi, Rev}
+use Rattle.rendezvous_steps.specs.Plan.{Plan, threads_from}
+use Rattle.rendezvous_steps.specs.StepTable.{write_of}
+use Rattle.rendezvous_steps.specs.Events.{Running, shows_finished}
+use Rattle.ctl_words.specs.Lists.{Lists, has_word, word_of}
+use Rattle.ctl_words.specs.Places.{is_word}
+
+-- how many threads are unfinished by the words
+abbrev pub unfinished_in : Plan → (Word → ℕ) → ℕ
+unfinished_in plan words = count_by (λ t. not (shows_finished plan words t)) (threads_from plan 0)
+
+-- the thread that a word is one of
+abbrev pub owner : Word → Option ℕ
+owner (Mode t) = Some t
+owner (Ctrl t) = Some t
+owner (Nmi t) = Some t
+owner word = None
+
+pub record State : Type 0 where
+  pub words : Lists
+  pub locals : List Local
+  pub latched : List Bool
+  pub unfinished : ℕ
+
+-- where a thread past the last one stands
+abbrev pub nowhere : Local
+nowhere = record { phase = Nothing; at = 0; polls = 0; mine = 0 }
+
+abbrev pub running_of : State → Running
+running_of s =
+    record {
+      words = word_of s.words;
+      locals = λ t. unwrap_or (slice_get s.locals t) nowhere;
+      latched = λ t. unwrap_or (slice_get s.latched t) false;
+    }
+
+-- revisions are of 32 bits: those at the start, and those that a write leaves
+pub record SmallRevisions (plan : Plan) : Type 0 where
+  pub first : (g : ℕ) → plan.rev0 g < 2 ^ 32
+  pub writes : (g : ℕ) → write_of plan g < 2 ^ 32
+
+-- the lists have the plan's places, each thread's loop is at a thread of the plan, revisions are of 32 bits, and the
+-- count is that of the words
+pub record Fits (plan : Plan) (s : State) : Type 0 where
+  pub words : (w : Word) → has_word s.words w ≡ is_word plan w
+  pub locals : length s.locals ≡ plan.threads
+  pub latched : length s.latched ≡ plan.threads
+  pub places : (t : ℕ) → t < plan.threads → ((running_of s).locals t).at < plan.threads
+  pub writes : (g : ℕ) → write_of plan g < 2 ^ 32
+  pub revisions : (g : ℕ) → word_of s.words (Rev g) < 2 ^ 32
+  pub counted : s.unfinished ≡ unfinished_in plan (word_of s.words)

@@ -1,0 +1,124 @@
+//! What the control words show of a thread.
+
+ghost use Rattle.std.specs.Prelude.{◌≡◌, ◌||◌, ◌<◌, ◌≤◌, ◌+◌, ◌^◌, ℕ, cond, count_by, not};
+ghost use Rattle.rendezvous_steps.specs.declared.operations.Word.TheVariants.{Mode, Nmi};
+ghost use Rattle.rendezvous_steps.specs.Events.{is_inside, shows_left, shows_halted, shows_withdrawn, shows_held, shows_finished};
+ghost use Rattle.rendezvous_steps.specs.Plan.{threads_from};
+ghost use Rattle.rendezvous_steps.specs.StepTable.{write_of};
+ghost use Rattle.ctl_words.specs.Lists.{word_of};
+ghost use Rattle.ctl_words.specs.Plans.{plan_of, IsSound};
+ghost use Rattle.ctl_core.specs.Moments.{unfinished_in, owner};
+
+use ctl_words::{PlainWords, Plan};
+use rendezvous_steps::{Kind, Word};
+
+pub fn has_left(words: &PlainWords, thread: u16) -> bool
+    ensures { result ≡ shows_left (word_of words.now) thread }
+{
+    words.get(Word::Mode(thread)) >= 8
+}
+
+pub fn has_halted(words: &PlainWords, thread: u16) -> bool
+    ensures { result ≡ shows_halted (word_of words.now) thread }
+{
+    words.get(Word::Ctrl(thread)) == 3
+}
+
+pub fn is_withdrawn(words: &PlainWords, plan: &Plan, thread: u16) -> bool
+    ensures { result ≡ shows_withdrawn (plan_of plan.now) (word_of words.now) thread }
+{
+    plan.kind_of(thread).is_offline() && words.get(Word::Nmi(thread)) == 3
+}
+
+/// Whether it left or was withdrawn.
+pub fn is_over(words: &PlainWords, plan: &Plan, thread: u16) -> bool
+    ensures { result ≡ (shows_left (word_of words.now) thread || shows_withdrawn (plan_of plan.now) (word_of words.now) thread) }
+{
+    has_left(words, thread) || is_withdrawn(words, plan, thread)
+}
+
+/// Whether it left, halted, was withdrawn, or takes no part.
+pub fn is_finished(words: &PlainWords, plan: &Plan, thread: u16) -> bool
+    ensures { result ≡ shows_finished (plan_of plan.now) (word_of words.now) thread }
+{
+    has_left(words, thread)
+        || has_halted(words, thread)
+        || is_withdrawn(words, plan, thread)
+        || plan.kind_of(thread).is_absent()
+}
+
+/// Whether it is in the handler and has not halted.
+pub fn is_held(words: &PlainWords, plan: &Plan, thread: u16) -> bool
+    ensures { result ≡ shows_held (plan_of plan.now) (word_of words.now) thread }
+{
+    is_inside(words, plan, thread) && !has_halted(words, thread)
+}
+
+fn is_inside(words: &PlainWords, plan: &Plan, thread: u16) -> bool
+    ensures { result ≡ is_inside ((plan_of plan.now).kind thread) (word_of words.now (Mode thread)) (word_of words.now (Nmi thread)) }
+{
+    let mode = words.get(Word::Mode(thread));
+    match plan.kind_of(thread) {
+        Kind::Online => mode == 1 || mode == 2,
+        Kind::Offline => words.get(Word::Nmi(thread)) == 2 && mode == 0,
+        Kind::Absent => false,
+    }
+}
+
+/// The revision that a write leaves: the offer, or the revision at the start where there is none or the group refuses.
+fn write_of(plan: &Plan, group: u16) -> u32
+    ensures { result ≡ write_of (plan_of plan.now) group }
+{
+    match plan.offer_of(group) {
+        Some(offer) if !plan.refuses(group) => offer,
+        _ => plan.rev0_of(group),
+    }
+}
+
+/// All revisions of a plan, and those that writes leave, are numbers of 32 bits.
+pub fn revisions_are_small(plan: &Plan)
+    requires { IsSound plan.now }
+    ensures first { (g : ℕ) → (plan_of plan.now).rev0 g < 2 ^ 32 }
+    ensures writes { (g : ℕ) → write_of (plan_of plan.now) g < 2 ^ 32 }
+{
+    for group in 0..plan.groups() {
+        let _first = plan.rev0_of(group);
+        let _write = write_of(plan, group);
+    }
+}
+
+/// How many threads are unfinished.
+pub fn unfinished(words: &PlainWords, plan: &Plan) -> u16
+    ensures { result ≡ unfinished_in (plan_of plan.now) (word_of words.now) }
+{
+    let mut count = 0;
+    for thread in 0..plan.threads {
+        if !is_finished(words, plan, thread) {
+            count += 1;
+        }
+    }
+    count
+}
+
+/// The number of unfinished threads where one of them was finished or not, and now is or is not.
+pub fn recounted(count: u16, was_finished: bool, is_finished: bool) -> u16
+    requires room { count + cond was_finished 1 0 < 2 ^ 16 }
+    requires some { cond is_finished 1 0 ≤ count + cond was_finished 1 0 }
+    ensures { result + cond is_finished 1 0 ≡ count + cond was_finished 1 0 }
+{
+    match (was_finished, is_finished) {
+        (true, false) => count + 1,
+        (false, true) => count - 1,
+        _ => count,
+    }
+}
+
+/// The thread that a word is one of.
+pub fn owner(word: Word) -> Option<u16>
+    ensures { result ≡ owner word }
+{
+    match word {
+        Word::Mode(thread) | Word::Ctrl(thread) | Word::Nmi(thread) => Some(thread),
+        Word::Arrive | Word::OffIn | Word::Decide | Word::Rev(_) | Word::Res(_) => None,
+    }
+}

@@ -1,0 +1,368 @@
+//! The state between two events, and one event.
+
+ghost use Rattle.std.specs.Prelude.{◌≡◌, ◌<◌, ◌||◌, ◌^◌, ℕ, false, map, length, replicate, slice_set, IfOk, IsTrue, Some, None};
+ghost use Rattle.rendezvous_steps.specs.declared.operations.Word.TheVariants.{Rev};
+ghost use Rattle.rendezvous_steps.specs.declared.steps.Kind.TheVariants.{Online, Offline};
+ghost use Rattle.rendezvous_steps.specs.Plan.{threads_from};
+ghost use Rattle.rendezvous_steps.specs.Events.{happens, performs, steps, runs, runs_by, nmi_comes, nmi_by, nmi_offline, runs_ordinary, latches, opening_running, left_with_latch, is_outside, shows_left, shows_halted, shows_withdrawn, shows_held};
+ghost use Rattle.rendezvous_steps.specs.StepTable.{operation, opening};
+ghost use Rattle.rendezvous_steps.specs.Words.{touched, words_after};
+ghost use Rattle.rendezvous_model.specs.RoundStep.{thread_of};
+ghost use Rattle.ctl_words.specs.Lists.{has_word, word_of};
+ghost use Rattle.ctl_words.specs.Plans.{plan_of, IsSound};
+ghost use Rattle.ctl_core.specs.Moments.{running_of, Fits, owner};
+
+use crate::looks;
+use ctl_thread::{after, next, opening};
+use ctl_words::{PlainWords, Plan, Words};
+use rendezvous_steps::{Event, How, Item, Kind, Local, Op, Phase, What};
+use std::alloc::Global;
+use std::marker::Model;
+use uc_bytes::NoMemory;
+
+/// A rendezvous between two events: the words, each thread's state, whether an NMI is latched for it, and how many
+/// threads are unfinished.
+#[derive(Drop)]
+pub struct Moment {
+    words: PlainWords,
+    locals: Vec<Local>,
+    latched: Vec<bool>,
+    unfinished: u16,
+}
+
+impl Model for Moment {
+    ghost use Rattle.ctl_core.specs.Moments.{State};
+
+    ghost Value = { State };
+
+    ghost view = { λ a. record { words = a.words; locals = a.locals.items; latched = a.latched.items; unfinished = a.unfinished } };
+}
+
+const NOWHERE: Local = Local {
+    phase: Phase::Nothing,
+    at: 0,
+    polls: 0,
+    mine: 0,
+};
+
+impl Moment {
+    /// The state in which a rendezvous with this plan begins. It answers want of memory and nothing else.
+    pub fn new(alloc: Global, plan: &Plan) -> Result<Moment, NoMemory>
+        requires { IsSound plan.now }
+        ensures fits { IfOk result (λ moment. Fits (plan_of plan.now) moment) }
+        ensures opening { IfOk result (λ moment. running_of moment ≡ opening_running (plan_of plan.now)) }
+    {
+        let words = PlainWords::new(alloc, plan)?;
+        let locals = openings(alloc, plan)?;
+        let latched = no_latches(alloc, plan.threads)?;
+        looks::revisions_are_small(plan);
+        Ok(Moment {
+            unfinished: looks::unfinished(&words, plan),
+            words,
+            locals,
+            latched,
+        })
+    }
+
+    /// How many threads are unfinished.
+    pub fn unfinished(&self) -> u16
+        ensures { result ≡ self.now.unfinished }
+    {
+        self.unfinished
+    }
+
+    /// One event, by the definition `happens`.
+    #[tactic(auto, unfolding(rendezvous_steps::specs::Events::happens))]
+    pub fn event(&mut self, plan: &Plan, event: Event) -> Item
+        requires sound { IsSound plan.now }
+        requires fits { Fits (plan_of plan.now) self.old }
+        requires in_range { thread_of event < plan.now.threads }
+        ensures thread { result.thread ≡ thread_of event }
+        ensures item { result.what ≡ (happens (plan_of plan.now) event (running_of self.old)).1 }
+        ensures state { running_of self.new ≡ (happens (plan_of plan.now) event (running_of self.old)).0 }
+        ensures fits { Fits (plan_of plan.now) self.new }
+    {
+        let (thread, what) = match event {
+            Event::Step(thread) => (thread, self.step(plan, thread, How::Step)),
+            Event::Timeout(thread) => (thread, self.step(plan, thread, How::Timeout)),
+            Event::Nmi(thread) => (thread, self.nmi(plan, thread)),
+            Event::Run(thread) => (thread, self.run(plan, thread)),
+        };
+        Item { thread, what }
+    }
+
+    /// The thread does its operation. Where it has none, a latched NMI comes through once it has left.
+    fn step(&mut self, plan: &Plan, thread: u16, how: How) -> What
+        requires sound { IsSound plan.now }
+        requires fits { Fits (plan_of plan.now) self.old }
+        requires in_range { thread < plan.now.threads }
+        ensures item { result ≡ (steps (plan_of plan.now) thread how (running_of self.old)).1 }
+        ensures state { running_of self.new ≡ (steps (plan_of plan.now) thread how (running_of self.old)).0 }
+        ensures fits { Fits (plan_of plan.now) self.new }
+    {
+        match next(plan, thread, &self.local(thread), how) {
+            Some(op) => self.perform(plan, thread, how, op),
+            None => self.come_through(plan, thread),
+        }
+    }
+
+    fn perform(&mut self, plan: &Plan, thread: u16, how: How, op: Op) -> What
+        requires next { operation (plan_of plan.now) thread ((running_of self.old).locals thread) how ≡ Some op }
+        requires sound { IsSound plan.now }
+        requires fits { Fits (plan_of plan.now) self.old }
+        requires in_range { thread < plan.now.threads }
+        ensures item { result ≡ (performs (plan_of plan.now) thread how (running_of self.old) (Some op)).1 }
+        ensures state { running_of self.new ≡ (performs (plan_of plan.now) thread how (running_of self.old) (Some op)).0 }
+        ensures fits { Fits (plan_of plan.now) self.new }
+    {
+        let local = self.local(thread);
+        let found = self.apply(plan, op);
+        let (local, what) = after(plan, thread, &local, how, found);
+        self.set_local(thread, local);
+        what
+    }
+
+    /// A latched NMI comes through once the thread has left.
+    fn come_through(&mut self, plan: &Plan, thread: u16) -> What
+        requires fits { Fits (plan_of plan.now) self.old }
+        requires in_range { thread < plan.now.threads }
+        ensures item { result ≡ (runs_by Offline (plan_of plan.now) thread (running_of self.old)).1 }
+        ensures state { running_of self.new ≡ (runs_by Offline (plan_of plan.now) thread (running_of self.old)).0 }
+        ensures fits { Fits (plan_of plan.now) self.new }
+    {
+        if self.left_with_latch(thread) {
+            self.ordinary(plan, thread)
+        } else {
+            What::Idle
+        }
+    }
+
+    /// An attempt to run ordinary code.
+    fn run(&mut self, plan: &Plan, thread: u16) -> What
+        requires sound { IsSound plan.now }
+        requires fits { Fits (plan_of plan.now) self.old }
+        requires in_range { thread < plan.now.threads }
+        ensures item { result ≡ (runs (plan_of plan.now) thread (running_of self.old)).1 }
+        ensures state { running_of self.new ≡ (runs (plan_of plan.now) thread (running_of self.old)).0 }
+        ensures fits { Fits (plan_of plan.now) self.new }
+    {
+        if self.is_held(plan, thread) {
+            self.step(plan, thread, How::Step)
+        } else {
+            self.run_outside(plan, thread, plan.kind_of(thread))
+        }
+    }
+
+    fn run_outside(&mut self, plan: &Plan, thread: u16, kind: Kind) -> What
+        requires fits { Fits (plan_of plan.now) self.old }
+        requires in_range { thread < plan.now.threads }
+        ensures item { result ≡ (runs_by kind (plan_of plan.now) thread (running_of self.old)).1 }
+        ensures state { running_of self.new ≡ (runs_by kind (plan_of plan.now) thread (running_of self.old)).0 }
+        ensures fits { Fits (plan_of plan.now) self.new }
+    {
+        match kind {
+            Kind::Online => self.run_online(plan, thread),
+            Kind::Offline => self.come_through(plan, thread),
+            Kind::Absent => What::Idle,
+        }
+    }
+
+    fn run_online(&mut self, plan: &Plan, thread: u16) -> What
+        requires fits { Fits (plan_of plan.now) self.old }
+        requires in_range { thread < plan.now.threads }
+        ensures item { result ≡ (runs_by Online (plan_of plan.now) thread (running_of self.old)).1 }
+        ensures state { running_of self.new ≡ (runs_by Online (plan_of plan.now) thread (running_of self.old)).0 }
+        ensures fits { Fits (plan_of plan.now) self.new }
+    {
+        if self.has_halted(thread) {
+            What::Idle
+        } else {
+            self.ordinary(plan, thread)
+        }
+    }
+
+    /// An NMI from elsewhere.
+    fn nmi(&mut self, plan: &Plan, thread: u16) -> What
+        requires sound { IsSound plan.now }
+        requires fits { Fits (plan_of plan.now) self.old }
+        requires in_range { thread < plan.now.threads }
+        ensures item { result ≡ (nmi_comes (plan_of plan.now) thread (running_of self.old)).1 }
+        ensures state { running_of self.new ≡ (nmi_comes (plan_of plan.now) thread (running_of self.old)).0 }
+        ensures fits { Fits (plan_of plan.now) self.new }
+    {
+        if self.is_held(plan, thread) {
+            self.latch(plan, thread)
+        } else {
+            self.nmi_outside(plan, thread, plan.kind_of(thread))
+        }
+    }
+
+    fn nmi_outside(&mut self, plan: &Plan, thread: u16, kind: Kind) -> What
+        requires sound { IsSound plan.now }
+        requires fits { Fits (plan_of plan.now) self.old }
+        requires in_range { thread < plan.now.threads }
+        ensures item { result ≡ (nmi_by kind (plan_of plan.now) thread (running_of self.old)).1 }
+        ensures state { running_of self.new ≡ (nmi_by kind (plan_of plan.now) thread (running_of self.old)).0 }
+        ensures fits { Fits (plan_of plan.now) self.new }
+    {
+        match kind {
+            Kind::Online => self.run_online(plan, thread),
+            Kind::Offline => self.nmi_offline(plan, thread),
+            Kind::Absent => What::Idle,
+        }
+    }
+
+    fn nmi_offline(&mut self, plan: &Plan, thread: u16) -> What
+        requires sound { IsSound plan.now }
+        requires fits { Fits (plan_of plan.now) self.old }
+        requires in_range { thread < plan.now.threads }
+        ensures item { result ≡ (nmi_offline (plan_of plan.now) thread (running_of self.old)).1 }
+        ensures state { running_of self.new ≡ (nmi_offline (plan_of plan.now) thread (running_of self.old)).0 }
+        ensures fits { Fits (plan_of plan.now) self.new }
+    {
+        if self.is_outside(thread) {
+            self.step(plan, thread, How::Nmi)
+        } else if self.is_over(plan, thread) {
+            self.ordinary(plan, thread)
+        } else {
+            What::Idle
+        }
+    }
+
+    fn ordinary(&mut self, plan: &Plan, thread: u16) -> What
+        requires fits { Fits (plan_of plan.now) self.old }
+        requires in_range { thread < plan.now.threads }
+        ensures item { result ≡ (runs_ordinary thread (running_of self.old)).1 }
+        ensures state { running_of self.new ≡ (runs_ordinary thread (running_of self.old)).0 }
+        ensures fits { Fits (plan_of plan.now) self.new }
+    {
+        self.set_latched(thread, false);
+        What::Ordinary
+    }
+
+    fn latch(&mut self, plan: &Plan, thread: u16) -> What
+        requires fits { Fits (plan_of plan.now) self.old }
+        requires in_range { thread < plan.now.threads }
+        ensures item { result ≡ (latches thread (running_of self.old)).1 }
+        ensures state { running_of self.new ≡ (latches thread (running_of self.old)).0 }
+        ensures fits { Fits (plan_of plan.now) self.new }
+    {
+        self.set_latched(thread, true);
+        What::Latched
+    }
+
+    /// Does the operation. Where it may change a word of a thread, that thread is counted anew.
+    fn apply(&mut self, plan: &Plan, op: Op) -> u64
+        requires sound { IsSound plan.now }
+        requires there { IsTrue (has_word self.old.words (touched op)) }
+        requires fits { Fits (plan_of plan.now) self.old }
+        requires revisions { (g : ℕ) → words_after (word_of self.old.words) op (Rev g) < 2 ^ 32 }
+        ensures found { result ≡ word_of self.old.words (touched op) }
+        ensures written { word_of self.new.words ≡ words_after (word_of self.old.words) op }
+        ensures same_locals { self.new.locals ≡ self.old.locals }
+        ensures same_latched { self.new.latched ≡ self.old.latched }
+        ensures fits { Fits (plan_of plan.now) self.new }
+    {
+        match looks::owner(op.word()) {
+            Some(thread) => self.apply_of(plan, thread, op),
+            None => self.words.apply(op),
+        }
+    }
+
+    /// Does an operation on a word of this thread.
+    fn apply_of(&mut self, plan: &Plan, thread: u16, op: Op) -> u64
+        requires sound { IsSound plan.now }
+        requires of { owner (touched op) ≡ Some thread }
+        requires there { IsTrue (has_word self.old.words (touched op)) }
+        requires fits { Fits (plan_of plan.now) self.old }
+        requires revisions { (g : ℕ) → words_after (word_of self.old.words) op (Rev g) < 2 ^ 32 }
+        ensures found { result ≡ word_of self.old.words (touched op) }
+        ensures written { word_of self.new.words ≡ words_after (word_of self.old.words) op }
+        ensures same_locals { self.new.locals ≡ self.old.locals }
+        ensures same_latched { self.new.latched ≡ self.old.latched }
+        ensures fits { Fits (plan_of plan.now) self.new }
+    {
+        let before = looks::is_finished(&self.words, plan, thread);
+        let found = self.words.apply(op);
+        let after = looks::is_finished(&self.words, plan, thread);
+        let count = looks::recounted(self.unfinished, before, after);
+        self.unfinished = count;
+        found
+    }
+
+    fn set_local(&mut self, thread: u16, local: Local)
+        requires { thread < length self.old.locals }
+        ensures { self.new ≡ record self.old { locals = slice_set self.old.locals thread local } }
+    {
+        self.locals[usize::from(thread)] = local;
+    }
+
+    fn set_latched(&mut self, thread: u16, latched: bool)
+        requires { thread < length self.old.latched }
+        ensures { self.new ≡ record self.old { latched = slice_set self.old.latched thread latched } }
+    {
+        self.latched[usize::from(thread)] = latched;
+    }
+
+    fn local(&self, thread: u16) -> Local
+        ensures { result ≡ (running_of self.now).locals thread }
+    {
+        self.locals
+            .get(usize::from(thread))
+            .copied()
+            .unwrap_or(NOWHERE)
+    }
+
+    fn is_outside(&self, thread: u16) -> bool
+        ensures { result ≡ is_outside ((running_of self.now).locals thread).phase }
+    {
+        matches!(self.local(thread).phase, Phase::Outside)
+    }
+
+    fn has_halted(&self, thread: u16) -> bool
+        ensures { result ≡ shows_halted (running_of self.now).words thread }
+    {
+        looks::has_halted(&self.words, thread)
+    }
+
+    fn is_held(&self, plan: &Plan, thread: u16) -> bool
+        ensures { result ≡ shows_held (plan_of plan.now) (running_of self.now).words thread }
+    {
+        looks::is_held(&self.words, plan, thread)
+    }
+
+    fn is_over(&self, plan: &Plan, thread: u16) -> bool
+        ensures { result ≡ (shows_left (running_of self.now).words thread || shows_withdrawn (plan_of plan.now) (running_of self.now).words thread) }
+    {
+        looks::is_over(&self.words, plan, thread)
+    }
+
+    fn left_with_latch(&self, thread: u16) -> bool
+        ensures { result ≡ left_with_latch thread (running_of self.now) }
+    {
+        looks::has_left(&self.words, thread)
+            && self
+                .latched
+                .get(usize::from(thread))
+                .copied()
+                .unwrap_or(false)
+    }
+}
+
+/// Where each thread stands when a rendezvous begins.
+fn openings(alloc: Global, plan: &Plan) -> Result<Vec<Local>, NoMemory>
+    requires { IsSound plan.now }
+    ensures { IfOk result (λ locals. locals.items ≡ map (opening (plan_of plan.now)) (threads_from (plan_of plan.now) 0)) }
+{
+    let mut locals = Vec::new(alloc);
+    for thread in 0..plan.threads {
+        locals.push(opening(plan, thread))?;
+    }
+    Ok(locals)
+}
+
+fn no_latches(alloc: Global, threads: u16) -> Result<Vec<bool>, NoMemory>
+    ensures { IfOk result (λ latched. latched.items ≡ replicate threads false) }
+{
+    Ok(vec![in alloc; false; usize::from(threads)]?)
+}
