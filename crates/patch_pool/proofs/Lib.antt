@@ -1,0 +1,5 @@
+pub mod Spaced
+pub mod Joining
+pub mod Giving
+pub mod Lowest
+pub mod Taking
