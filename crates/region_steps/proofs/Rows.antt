@@ -92,3 +92,26 @@ pub found_alike : (one other : ℕ → Bool) (first count : ℕ) → ((k : ℕ) 
 found_alike one other first zero each = refl
 found_alike one other first (suc count) each =
     rw (each first (omega arith) (omega arith), found_alike one other (first + 1) count (λ k low high. each k (omega (arith, low)) (omega (arith, high)))) refl
+
+-- ---- some of them
+
+pub any_passes : (test : ℕ → Bool) (first count k : ℕ) → first ≤ k → k < first + count → test k ≡ true → list_any test (range_with_len first count) ≡ true
+any_passes test first zero k low high here = absurd (omega (arith, low, high))
+any_passes test first (suc count) k low high here =
+    elim (cases_eq first k) [
+      | inl same ↦ let e : test first ≡ true = subst (λ (n : ℕ). test n ≡ true) (sym same) here in rw e refl
+      | inr other ↦ let e = any_passes test (first + 1) count k (omega (arith, low, other)) (omega (arith, high)) here in rw e (grind (arith, nat_tests))
+    ]
+
+pub none_passes : (test : ℕ → Bool) (first count : ℕ) → ((k : ℕ) → first ≤ k → k < first + count → test k ≡ false) → list_any test (range_with_len first count) ≡ false
+none_passes test first zero none = refl
+none_passes test first (suc count) none =
+    rw (none first (omega arith) (omega arith), none_passes test (first + 1) count (λ k low high. none k (omega (arith, low)) (omega (arith, high)))) refl
+
+pub any_found : (test : ℕ → Bool) (first count : ℕ) → list_any test (range_with_len first count) ≡ true → (k : ℕ) × (test k ≡ true)
+any_found test first zero some = absurd (false≢true some)
+any_found test first (suc count) some =
+    elim (cases_Bool (test first)) [
+      | inl here ↦ (first, here)
+      | inr not_here ↦ any_found test (first + 1) count (rw not_here at some)
+    ]
