@@ -1,0 +1,6 @@
+pub mod State
+pub mod Offers
+pub mod Did
+pub mod Step
+pub mod Session
+pub mod Played

@@ -1,0 +1,81 @@
+-- What a call that runs one command of a session came to.
+use Rattle.std.specs.Prelude.{◌≡◌, ◌⊎◌, ℕ, ◌<◌, Bool, true, false, IsTrue, List, [], ◌∷◌, ◌++◌, length, Option, Some, None}
+use Rattle.uc_io.specs.Faults.{Rose}
+use Rattle.uc_io.specs.Writing.{Grew}
+use Rattle.top_call.specs.Written.{IsFront}
+use Rattle.file_reads.specs.Reads.{Read}
+use Rattle.rendezvous_rule.specs.Runs.{RunOf}
+use Rattle.script_text.specs.declared.command.Command.{Command}
+use Rattle.session_text.specs.declared.answers.CommandAnswer.{CommandAnswer}
+use Rattle.session_text.specs.declared.answers.CommandAnswer.TheVariants.{Load}
+use Rattle.session_text.specs.declared.answers.LoadAnswer.TheVariants.{ReadFault}
+use Rattle.session_text.specs.declared.answers.Played.{Played}
+use Rattle.session_text.specs.declared.answers.Played.TheVariants as played
+use Rattle.session_steps.specs.State.{Setting, State}
+use Rattle.session_steps.specs.Did.{Did}
+use Rattle.session_steps.specs.Step.{SessionStep}
+use Rattle.session_steps.specs.Session.{heading, text_of}
+
+abbrev pub is_read_fault : CommandAnswer → Bool
+is_read_fault (Load (ReadFault file)) = true
+is_read_fault answer = false
+
+-- a command that may have run: it is number k of its script, and what was read is what the files hold, where they tell
+pub record MayRun (lists : Bool) (held : List Read → Type 0) (setting : Setting) (one : Command) (old : State) (did : Did) : Type 0 where
+  pub step : SessionStep lists setting old one did
+  pub is_held : held did.reads
+
+-- the counts of the files' faults: an unread file exactly where it rose
+abbrev pub FileCause : Bool → ℕ → ℕ → Type 0
+FileCause true before now = Rose before now
+FileCause false before now = now ≡ before
+
+abbrev pub ran_once : Option RunOf → List RunOf
+ran_once None = []
+ran_once (Some run) = run ∷ []
+
+-- the command was answered: its whole text was written, and the state is that after it
+pub record Answers {D : Type 0} (stands : D → List ℕ → Type 0) (lists : Bool) (held : List Read → Type 0) (setting : Setting) (k : ℕ) (one : Command) (files_before files_now : ℕ) (runs_before runs_now : List RunOf) (old new : State) (sink_before sink_now : D) (answer : CommandAnswer) : Type 0 where
+  pub did : Did
+  pub may : MayRun lists held setting one old did
+  pub is_answer : answer ≡ did.answer
+  pub is_after : new ≡ did.after
+  pub grew : Grew stands sink_before sink_now (text_of k one did)
+  pub cause : FileCause (is_read_fault answer) files_before files_now
+  pub kept : lists ≡ false → runs_now ≡ runs_before ++ ran_once did.ran
+
+-- a front of a command's text was written: one of an unread file only where the files' count rose
+pub record Starts {D : Type 0} (stands : D → List ℕ → Type 0) (lists : Bool) (held : List Read → Type 0) (setting : Setting) (k : ℕ) (one : Command) (files_before files_now : ℕ) (old : State) (sink_before sink_now : D) (did : Did) (front : List ℕ) : Type 0 where
+  pub may : MayRun lists held setting one old did
+  pub is_front : IsFront front (text_of k one did)
+  pub grew : Grew stands sink_before sink_now front
+  pub by_fault : IsTrue (is_read_fault did.answer) → Rose files_before files_now
+
+-- The state that a write fault leaves goes by how much was written: the old one where that is less than what is shown before
+-- the state changes, the new one where it is more, and one of both where it is just that.
+pub record LeftBy (front shown : List ℕ) (old new after : State) : Type 0 where
+  pub less : length front < length shown → new ≡ old
+  pub just : length front ≡ length shown → (new ≡ old) ⊎ (new ≡ after)
+  pub more : length shown < length front → new ≡ after
+
+pub record CutShort {D : Type 0} (stands : D → List ℕ → Type 0) (faults : D → ℕ) (lists : Bool) (held : List Read → Type 0) (setting : Setting) (k : ℕ) (one : Command) (files_before files_now : ℕ) (old new : State) (sink_before sink_now : D) : Type 0 where
+  pub did : Did
+  pub front : List ℕ
+  pub starts : Starts stands lists held setting k one files_before files_now old sink_before sink_now did front
+  pub left : LeftBy front (heading k one ++ did.shown) old new did.after
+  pub rose : Rose (faults sink_before) (faults sink_now)
+
+-- want of memory: the state is as before
+pub record RanOut {D : Type 0} (stands : D → List ℕ → Type 0) (lists : Bool) (held : List Read → Type 0) (setting : Setting) (k : ℕ) (one : Command) (files_before files_now : ℕ) (old new : State) (sink_before sink_now : D) : Type 0 where
+  pub did : Did
+  pub front : List ℕ
+  pub starts : Starts stands lists held setting k one files_before files_now old sink_before sink_now did front
+  pub same : new ≡ old
+
+abbrev pub IsPlayed : {D : Type 0} → (D → List ℕ → Type 0) → (D → ℕ) → Bool → (List Read → Type 0) → Setting → ℕ → Command → ℕ → ℕ → List RunOf → List RunOf → State → State → D → D → Played → Type 0
+IsPlayed stands faults lists held setting k one files_before files_now runs_before runs_now old new sink_before sink_now (played.Answered answer) =
+    Answers stands lists held setting k one files_before files_now runs_before runs_now old new sink_before sink_now answer
+IsPlayed stands faults lists held setting k one files_before files_now runs_before runs_now old new sink_before sink_now played.WriteFault =
+    CutShort stands faults lists held setting k one files_before files_now old new sink_before sink_now
+IsPlayed stands faults lists held setting k one files_before files_now runs_before runs_now old new sink_before sink_now played.NoMemory =
+    RanOut stands lists held setting k one files_before files_now old new sink_before sink_now
