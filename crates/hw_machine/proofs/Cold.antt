@@ -1,8 +1,10 @@
 -- Whether all threads of a group are cold.
-use Rattle.std.proofs.Common.{◌≡◌, ℕ, zero, suc, ◌+◌, ◌<◌, ◌≤◌, Bool, true, false, nat_eq, filter, refl, inl, inr, arith}
+use Rattle.std.proofs.Common.{ap, ◌∙◌, List, replicate, ◌≡◌, ℕ, zero, suc, ◌+◌, ◌<◌, ◌≤◌, Bool, true, false, nat_eq, filter, refl, inl, inr, arith}
 use Rattle.std.specs.List.{list_all, range_with_len}
 use Rattle.std.proofs.lemmas.Bool.{cases_eq, eq-eqb, ne_eqb}
 use Rattle.std.proofs.lemmas.Grind.{common_steps}
+use Rattle.machine_steps.specs.declared.states.ThreadState.{ThreadState}
+use Rattle.machine_steps.specs.declared.states.ThreadState.TheVariants.{Cold}
 use Rattle.machine_steps.specs.Hardware.{Setting, Hardware, is_cold, all_cold}
 
 -- each number of a row that is g's passes
@@ -34,3 +36,11 @@ pub all_cold_is_not : (setting : Setting) (hardware : Hardware) (g t : ℕ) → 
 unfolding all_cold
 all_cold_is_not setting hardware g t below same other =
     fails_in_row (λ t. is_cold (hardware.thread t)) setting.group g 0 setting.threads t (omega arith) (omega arith) same other
+
+-- a table of so many cold threads
+cold_table : (n : ℕ) → list_all is_cold (replicate n Cold) ≡ true
+cold_table zero = refl
+cold_table (suc n) = cold_table n
+
+pub all_are_cold : (n : ℕ) (states : List ThreadState) → states ≡ replicate n Cold → list_all is_cold states ≡ true
+all_are_cold n states are = ap (list_all is_cold) are ∙ cold_table n

@@ -1,9 +1,10 @@
 //! A machine.
 
-ghost use Rattle.std.specs.Prelude.{◌≡◌, ℕ, ◌<◌, ◌≤◌, length, All, Ok, IsTrue, true};
+ghost use Rattle.std.specs.Prelude.{◌≡◌, ℕ, ◌<◌, ◌≤◌, length, All, Ok, true, false};
+ghost use Rattle.std.specs.List.{list_all};
 ghost use Rattle.machine_steps.specs.declared.states.Power.TheVariants.{On};
 ghost use Rattle.machine_steps.specs.declared.states.ThreadState.TheVariants.{Up};
-ghost use Rattle.machine_steps.specs.Hardware.{setting_of as stated_setting, switched_off, all_cold, is_on, with_thread, with_refusal, with_rev};
+ghost use Rattle.machine_steps.specs.Hardware.{setting_of as stated_setting, switched_off, all_cold, is_on, is_cold, with_thread, with_refusal, with_rev};
 ghost use Rattle.machine_steps.specs.Calls.{power_on, soft_offline, may_come_up, suspend, wake, Answers};
 
 use crate::tables::{copied, filled, firmware_revisions, groups_of, up_threads};
@@ -28,6 +29,7 @@ pub struct Machine {
     ghost remembered_fit: { length remembered.items ≡ length group.items },
     ghost refuses_fit: { length refuses.items ≡ length bios.items },
     ghost revisions_fit: { length rev.items ≡ length bios.items },
+    ghost cold_unless_on: { is_on power ≡ false → list_all is_cold thread.items ≡ true },
 }
 
 impl Machine {
@@ -81,8 +83,10 @@ impl Machine {
         self.group[usize::from(t)]
     }
 
+    /// Whether it is powered. Its contract says also that all threads are cold where power is not on.
     pub fn power(&self) -> Power
-        ensures { result ≡ (hardware_of self.now).power }
+        ensures value { result ≡ (hardware_of self.now).power }
+        ensures cold { is_on (hardware_of self.now).power ≡ false → (t : ℕ) → is_cold ((hardware_of self.now).thread t) ≡ true }
     {
         self.power
     }

@@ -125,4 +125,4 @@ abbrev pub IsFound : Entry → Found → Type 0
 IsFound entry (Update place own) =
     IsUpdate own.now × (length own.now < 2 ^ 32) × (entry ≡ update_entry place.file place.start (update_in own.now))
 IsFound entry (Patch place equiv own) =
-    IsEquiv equiv.now × IsPatch own.now × (entry ≡ patch_entry place.file place.start (rows_of equiv.now) own.now)
+    IsEquiv equiv.now × IsPatch own.now × (length own.now < 2 ^ 32) × (entry ≡ patch_entry place.file place.start (rows_of equiv.now) own.now)

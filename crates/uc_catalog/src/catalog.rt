@@ -152,10 +152,13 @@ impl Catalog {
         }
     }
 
-    /// The bytes of an entry: of an update header, data and table, of a patch what follows its section's head.
+    /// The bytes of an entry: of an update header, data and table, of a patch what follows its section's head. A header
+    /// has at least 48 bytes.
     pub fn bytes_of(&self, i: u32) -> &[u8]
         requires { i < length self.now.entries }
-        ensures { result.now ≡ (entry_at self.now i).bytes }
+        ensures bytes { result.now ≡ (entry_at self.now i).bytes }
+        ensures header { 48 ≤ length result.now }
+        ensures few { length result.now < 2 ^ 32 }
     {
         match self.found(i) {
             Found::Update(_, own) => own,

@@ -8,4 +8,4 @@ returns-in_err-put_entry_line g c = λ date_text are.
 
 pub returns : goal.returns
 returns g c = λ date_text are.
-    rw (← c.entry.ensures, ← c.bytes_of.ensures) (Writes-then g.S.Sink.stands g.S.Sink.faults _ _ _ _ _ _ (c.in_ok-put_entry_line.ensures date_text are) c.put_bytes.ensures)
+    rw (← c.entry.ensures, ← c.bytes_of.ensures.bytes) (Writes-then g.S.Sink.stands g.S.Sink.faults _ _ _ _ _ _ (c.in_ok-put_entry_line.ensures date_text are) c.put_bytes.ensures)

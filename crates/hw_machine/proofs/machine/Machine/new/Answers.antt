@@ -1,3 +1,4 @@
+use Rattle.hw_machine.proofs.Cold.{all_are_cold}
 use Rattle.hw_machine.proofs.Opening.{setting_is, groups_in_range}
 use Rattle.hw_machine.proofs.machine.Machine.new.Goals as goal
 
@@ -8,3 +9,6 @@ invariant_of-result-clause-in_groups c =
 pub returns-clause-setting : goal.returns-clause-setting
 returns-clause-setting c =
     rw (c.groups_of-group.ensures.items, c.firmware_revisions-bios.ensures.items) (setting_is _ c.groups_of-group.ensures.known)
+
+pub invariant_of-result-clause-cold_unless_on : goal.invariant_of-result-clause-cold_unless_on
+invariant_of-result-clause-cold_unless_on c = λ _. all_are_cold _ _ c.filled-thread.ensures
