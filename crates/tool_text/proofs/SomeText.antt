@@ -1,32 +1,32 @@
 -- Whatever the words and the files are, there is a text for a run in which no read fails.
-use Rattle.std.proofs.Common.{◌≡◌, ◌⊎◌, inl, inr, ℕ, suc, ◌<◌, ◌≤◌, List, [], ◌∷◌, length, map, Option, Some, None, refl, subst, sym, ◌∙◌, ap, arith}
-use Rattle.std.specs.Prelude.{false, slice_get, slice_index_or}
+use Rattle.std.proofs.Common.{◌≡◌, ◌⊎◌, inl, inr, ℕ, ◌≤◌, List, [], ◌∷◌, length, map, Option, Some, None, refl, sym, arith}
+use Rattle.std.specs.Prelude.{false, slice_get}
 use Rattle.std.specs.List.{range_with_len}
 use Rattle.std.proofs.lemmas.Bool.{cases_lt}
-use Rattle.std.proofs.lemmas.Option.{slice_get-get_or}
+use Rattle.std.proofs.lemmas.Option.{none-some, slice_get-get_or}
 use Rattle.std.proofs.lemmas.List.FromFn.{length-map-range_with_len, get_or-map-range_with_len}
-use Rattle.uc_bytes.specs.declared.causes.FileCause.{FileCause}
-use Rattle.uc_bytes.specs.declared.causes.FileCause.TheVariants.{TooLong}
 use Rattle.intel_format.proofs.Decided.{decided_day}
 use Rattle.uc_topology.specs.declared.fault.TopoCause.{TopoCause}
 use Rattle.uc_topology.specs.declared.fault.TopoCause.TheVariants as topo
 use Rattle.uc_topology.specs.Stated.{Machine, group_count}
 use Rattle.uc_topology.proofs.Laws.{one_each}
-use Rattle.file_entries.specs.Reading.{Reading, IsReading}
+use Rattle.file_entries.specs.Reading.{Reading}
 use Rattle.file_entries.specs.Entry.{Entry, patch_entry}
-use Rattle.entry_laws.proofs.Readings.{reading_or_fault}
 use Rattle.entry_laws.proofs.Offers.{some_offer}
-use Rattle.report_text.specs.Lines.{usage_line, unread_line, fault_line, topology_line, no_entry_line, day_text, IsDateText}
+use Rattle.file_reads.specs.declared.TheConstants.{TOPOLOGY_LIMIT}
+use Rattle.file_reads.specs.Accepts.{IsMachine, RefusesTopology}
+use Rattle.file_reads.specs.Reads.{Read, AreHeld, Outcome, AllRead, NotRead, Refused, Reads, count_of}
+use Rattle.file_reads.proofs.Outcomes.{some_outcome, held_nil, held_one, held_cons}
+use Rattle.report_text.specs.Lines.{usage_line, fault_line, topology_line, no_entry_line, day_text, IsDateText}
 use Rattle.report_text.specs.Listing.{AreDateTexts, files_text}
 use Rattle.report_text.specs.Show.{show_text}
 use Rattle.report_text.specs.Offers.{facts_of_group, AreOffers, offers_text}
 use Rattle.top_call.specs.Written.{HasText}
+use Rattle.top_call.specs.declared.status.Status.{Status}
 use Rattle.top_call.specs.declared.status.Status.TheVariants.{Done, Usage, BadInput}
-use Rattle.tool_text.specs.declared.TheConstants.{FILE_LIMIT, TOPOLOGY_LIMIT}
 use Rattle.tool_text.specs.Words.{Asked, Faulty, ListOf, ShowOf, SelectOf, asked}
-use Rattle.tool_text.specs.Reads.{Accepts, Refuses, AreAccepted, AllRead, Refused, ComesTo, IsMachine, RefusesTopology}
 use Rattle.tool_text.specs.Commands.{entries_of_all, facts_at, ListText, ShowText, SelectText}
-use Rattle.tool_text.specs.Tool.{AskedText, ToolText}
+use Rattle.tool_text.specs.Tool.{AskedText, ToolText, FromReads}
 
 -- each date has a text
 some_date : (date : ℕ) → (text : List ℕ) × IsDateText date text
@@ -42,72 +42,43 @@ pub are_date_texts : AreDateTexts date_text_of
 unfolding date_text_of some_date
 are_date_texts = λ date. (some_date date).1
 
--- an update file is accepted or refused
-accepted : (bytes : List ℕ) → ((reading : Reading) × Accepts bytes reading) ⊎ ((offset : ℕ) × (cause : FileCause) × Refuses bytes offset cause)
-accepted bytes = elim (cases_lt FILE_LIMIT (length bytes)) [
-  | inl long ↦ inr (FILE_LIMIT, TooLong, inl (long, refl, refl))
-  | inr within ↦ elim (reading_or_fault bytes) [
-    | inl reading ↦ inl (reading.0, record { within = within; is_reading = reading.1 })
-    | inr fault ↦ inr (fault.0, fault.1, inr (within, fault.2))
-  ]
-]
+-- `list`, as reads of its names come to an outcome
+module _ (names : List (List ℕ)) (holds : List ℕ → List ℕ) where
+  abbrev ListTexts : Option ℕ → List ℕ → Status → Type 0
+  ListTexts = FromReads (Unit {0}) holds (ListText names)
 
--- the first of some files that is refused
-record FirstRefused (names : List (List ℕ)) (holds : List ℕ → List ℕ) : Type 0 where
-  place : ℕ
-  name : List ℕ
-  offset : ℕ
-  cause : FileCause
-  comes : ComesTo names holds place name
-  refuses : Refuses (holds name) offset cause
+  listing_of : (outcome : Outcome) (reads : List Read) → AreHeld holds reads → Reads names reads outcome → count_of outcome reads ≡ None → HasText ListTexts
+  listing_of (AllRead readings) reads held come none = record {
+    text = files_text date_text_of 0 0 names readings;
+    status = Done;
+    is_text = record {
+      reads = reads;
+      held = λ told. held;
+      is_text = record {
+        outcome = AllRead readings;
+        come = come;
+        count = refl;
+        listed = record { date_text = date_text_of; are_dates = are_date_texts; lines = refl };
+      };
+    };
+    goes = tt;
+  }
+  listing_of (NotRead name) reads held come none = absurd (none-some (length reads) (sym none))
+  listing_of (Refused name offset cause) reads held come none = record {
+    text = fault_line name offset cause;
+    status = BadInput;
+    is_text = record {
+      reads = reads;
+      held = λ told. held;
+      is_text = record { outcome = Refused name offset cause; come = come; count = refl; listed = refl };
+    };
+    goes = tt;
+  }
 
--- all are accepted, or there is one
-all_accepted : (names : List (List ℕ)) (holds : List ℕ → List ℕ) → ((readings : List Reading) × AreAccepted (map holds names) readings) ⊎ FirstRefused names holds
-all_accepted [] holds = inl ([], tt)
-all_accepted (name ∷ names) holds = elim (accepted (holds name)) [
-  | inr refused ↦
-      inr
-      (record {
-        place = 0;
-        name = name;
-        offset = refused.0;
-        cause = refused.1;
-        comes = record { there = refl; readings = []; before = tt };
-        refuses = refused.2;
-      })
-  | inl here ↦ elim (all_accepted names holds) [
-    | inl rest ↦ inl (here.0 ∷ rest.0, (here.1, rest.1))
-    | inr later ↦
-        inr
-        (record {
-          place = suc later.place;
-          name = later.name;
-          offset = later.offset;
-          cause = later.cause;
-          comes = record { there = later.comes.there; readings = here.0 ∷ later.comes.readings; before = (here.1, later.comes.before) };
-          refuses = later.refuses;
-        })
-  ]
-]
-
--- `list`
-pub list_text : (names : List (List ℕ)) (holds : List ℕ → List ℕ) → HasText (ListText names holds)
-list_text names holds = elim (all_accepted names holds) [
-  | inl all ↦
-      record {
-        text = files_text date_text_of 0 0 names all.0;
-        status = Done;
-        is_text = record { outcome = AllRead all.0; reads = all.1; listed = record { date_text = date_text_of; are_dates = are_date_texts; lines = refl } };
-        goes = tt;
-      }
-  | inr first ↦
-      record {
-        text = fault_line first.name first.offset first.cause;
-        status = BadInput;
-        is_text = record { outcome = Refused first.name first.offset first.cause; reads = (first.place, first.comes, first.refuses); listed = refl };
-        goes = tt;
-      }
-]
+pub list_text : (names : List (List ℕ)) (holds : List ℕ → List ℕ) → HasText (FromReads (Unit {0}) holds (ListText names))
+list_text names holds =
+    let all = some_outcome names holds in
+    listing_of names holds all.outcome all.reads all.held all.come all.all_read
 
 -- an entry of a number, or none
 entry_at : (entries : List Entry) (number : ℕ) → ((entry : Entry) × (slice_get entries number ≡ Some entry)) ⊎ (length entries ≤ number)
@@ -117,35 +88,59 @@ entry_at entries number = elim (cases_lt number (length entries)) [
 ]
 
 -- `show`
-show_of_all : (name : List ℕ) (number : ℕ) (holds : List ℕ → List ℕ) (readings : List Reading) → AreAccepted (map holds (name ∷ [])) readings → HasText (ShowText name number holds)
-show_of_all name number holds readings all = elim (entry_at (entries_of_all readings) number) [
-  | inl entry ↦
-      record {
-        text = show_text date_text_of number entry.0;
-        status = Done;
-        is_text = record { outcome = AllRead readings; reads = all; shown = record { entry = entry.0; there = entry.1; date_text = date_text_of; are_dates = are_date_texts; lines = refl } };
-        goes = tt;
-      }
-  | inr past ↦
-      record {
-        text = no_entry_line number;
-        status = BadInput;
-        is_text = record { outcome = AllRead readings; reads = all; shown = (past, refl) };
-        goes = tt;
-      }
-]
+module _ (name : List ℕ) (number : ℕ) (holds : List ℕ → List ℕ) where
+  abbrev ShowTexts : Option ℕ → List ℕ → Status → Type 0
+  ShowTexts = FromReads (Unit {0}) holds (ShowText name number)
 
-pub show_text_of : (name : List ℕ) (number : ℕ) (holds : List ℕ → List ℕ) → HasText (ShowText name number holds)
-show_text_of name number holds = elim (all_accepted (name ∷ []) holds) [
-  | inl all ↦ show_of_all name number holds all.0 all.1
-  | inr first ↦
-      record {
-        text = fault_line first.name first.offset first.cause;
-        status = BadInput;
-        is_text = record { outcome = Refused first.name first.offset first.cause; reads = (first.place, first.comes, first.refuses); shown = refl };
-        goes = tt;
-      }
-]
+  show_of_all : (readings : List Reading) (reads : List Read) → AreHeld holds reads → Reads (name ∷ []) reads (AllRead readings) → HasText ShowTexts
+  show_of_all readings reads held come = elim (entry_at (entries_of_all readings) number) [
+    | inl entry ↦
+        record {
+          text = show_text date_text_of number entry.0;
+          status = Done;
+          is_text = record {
+            reads = reads;
+            held = λ told. held;
+            is_text = record {
+              outcome = AllRead readings;
+              come = come;
+              count = refl;
+              shown = record { entry = entry.0; there = entry.1; date_text = date_text_of; are_dates = are_date_texts; lines = refl };
+            };
+          };
+          goes = tt;
+        }
+    | inr past ↦
+        record {
+          text = no_entry_line number;
+          status = BadInput;
+          is_text = record {
+            reads = reads;
+            held = λ told. held;
+            is_text = record { outcome = AllRead readings; come = come; count = refl; shown = (past, refl) };
+          };
+          goes = tt;
+        }
+  ]
+
+  showing_of : (outcome : Outcome) (reads : List Read) → AreHeld holds reads → Reads (name ∷ []) reads outcome → count_of outcome reads ≡ None → HasText ShowTexts
+  showing_of (AllRead readings) reads held come none = show_of_all readings reads held come
+  showing_of (NotRead which) reads held come none = absurd (none-some (length reads) (sym none))
+  showing_of (Refused which offset cause) reads held come none = record {
+    text = fault_line which offset cause;
+    status = BadInput;
+    is_text = record {
+      reads = reads;
+      held = λ told. held;
+      is_text = record { outcome = Refused which offset cause; come = come; count = refl; shown = refl };
+    };
+    goes = tt;
+  }
+
+pub show_text_of : (name : List ℕ) (number : ℕ) (holds : List ℕ → List ℕ) → HasText (FromReads (Unit {0}) holds (ShowText name number))
+show_text_of name number holds =
+    let all = some_outcome (name ∷ []) holds in
+    showing_of name number holds all.outcome all.reads all.held all.come all.all_read
 
 -- the offers of all groups
 module _ (machine : Machine) (entries : List Entry) where
@@ -164,66 +159,109 @@ module _ (machine : Machine) (entries : List Entry) where
   }
 
 -- `select`
-select_for : (topology : List ℕ) (names : List (List ℕ)) (holds : List ℕ → List ℕ) (machine : Machine) → IsMachine (holds topology) machine → HasText (SelectText topology names holds)
-select_for topology names holds machine is = elim (all_accepted names holds) [
-  | inl all ↦
-      let entries = entries_of_all all.0 in
+module _ (topology : List ℕ) (names : List (List ℕ)) (holds : List ℕ → List ℕ) where
+  abbrev SelectTexts : Option ℕ → List ℕ → Status → Type 0
+  SelectTexts = FromReads (Unit {0}) holds (SelectText topology names)
+
+  first_read : Read
+  first_read = record { name = topology; bytes = holds topology }
+
+  first_is_held : (first_read).bytes ≡ holds (first_read).name
+  unfolding first_read
+  first_is_held = refl
+
+  selection_of : (machine : Machine) → IsMachine (holds topology) machine → (outcome : Outcome) (reads : List Read) → AreHeld holds reads → Reads names reads outcome → count_of outcome reads ≡ None → HasText SelectTexts
+  unfolding first_read
+  selection_of machine is (AllRead readings) reads held come none =
+      let entries = entries_of_all readings in
       record {
         text = offers_text machine (facts_at entries) (offers_of machine entries);
         status = Done;
-        is_text = inr
-            (record {
-              machine = machine;
-              is_machine = is;
-              behind = None;
-              count = refl;
-              outcome = AllRead all.0;
-              reads = all.1;
-              selected = record { offers = offers_of machine entries; are_offers = are_offers machine entries; lines = refl };
-            });
+        is_text = record {
+          reads = first_read ∷ reads;
+          held = λ told. held_cons holds first_read reads first_is_held held;
+          is_text = inr
+              (record {
+                bytes = holds topology;
+                behind = reads;
+                first = refl;
+                machine = machine;
+                is_machine = is;
+                outcome = AllRead readings;
+                come = come;
+                count = refl;
+                selected = record { offers = offers_of machine entries; are_offers = are_offers machine entries; lines = refl };
+              });
+        };
         goes = tt;
       }
-  | inr first ↦
-      record {
-        text = fault_line first.name first.offset first.cause;
-        status = BadInput;
-        is_text = inr
-            (record {
-              machine = machine;
-              is_machine = is;
-              behind = None;
-              count = refl;
-              outcome = Refused first.name first.offset first.cause;
-              reads = (first.place, first.comes, first.refuses);
-              selected = refl;
-            });
-        goes = tt;
-      }
-]
+  selection_of machine is (NotRead name) reads held come none = absurd (none-some (length reads) (sym none))
+  selection_of machine is (Refused name offset cause) reads held come none = record {
+    text = fault_line name offset cause;
+    status = BadInput;
+    is_text = record {
+      reads = first_read ∷ reads;
+      held = λ told. held_cons holds first_read reads first_is_held held;
+      is_text = inr
+          (record {
+            bytes = holds topology;
+            behind = reads;
+            first = refl;
+            machine = machine;
+            is_machine = is;
+            outcome = Refused name offset cause;
+            come = come;
+            count = refl;
+            selected = refl;
+          });
+    };
+    goes = tt;
+  }
 
--- a topology that is refused
-topology_refused : (topology : List ℕ) (names : List (List ℕ)) (holds : List ℕ → List ℕ) (line : ℕ) (cause : TopoCause) → RefusesTopology (holds topology) line cause → HasText (SelectText topology names holds)
-topology_refused topology names holds line cause refuses = record {
-  text = topology_line line cause;
-  status = BadInput;
-  is_text = inl (record { line = line; cause = cause; refuses = refuses; lines = refl });
-  goes = tt;
-}
+  -- a topology that is refused
+  topology_refused : (line : ℕ) (cause : TopoCause) → RefusesTopology (holds topology) line cause → HasText SelectTexts
+  unfolding first_read
+  topology_refused line cause refuses = record {
+    text = topology_line line cause;
+    status = BadInput;
+    is_text = record {
+      reads = first_read ∷ [];
+      held = λ told. held_one holds first_read first_is_held;
+      is_text = inl (record { bytes = holds topology; only = refl; line = line; cause = cause; refuses = refuses; lines = refl });
+    };
+    goes = tt;
+  }
 
-pub select_text : (topology : List ℕ) (names : List (List ℕ)) (holds : List ℕ → List ℕ) → HasText (SelectText topology names holds)
+pub select_text : (topology : List ℕ) (names : List (List ℕ)) (holds : List ℕ → List ℕ) → HasText (FromReads (Unit {0}) holds (SelectText topology names))
 select_text topology names holds = elim (cases_lt TOPOLOGY_LIMIT (length (holds topology))) [
   | inl long ↦ topology_refused topology names holds 0 topo.TooLong (inl (long, refl, refl))
   | inr within ↦ elim (one_each (holds topology)) [
-    | inl states ↦ select_for topology names holds states.0 (record { within = within; states = states.1 })
+    | inl states ↦
+        let all = some_outcome names holds in
+        selection_of topology names holds states.0 (record { within = within; states = states.1 }) all.outcome all.reads all.held all.come all.all_read
     | inr fault ↦ topology_refused topology names holds fault.0.line fault.0.cause (inr (within, fault.1))
   ]
 ]
 
-pub asked_text : (line : Asked) (holds : List ℕ → List ℕ) → HasText (AskedText line holds)
-asked_text (Faulty i) holds = record { text = usage_line i; status = Usage i; is_text = (refl, refl); goes = tt }
+pub asked_text : (line : Asked) (holds : List ℕ → List ℕ) → HasText (FromReads (Unit {0}) holds (AskedText line))
+asked_text (Faulty i) holds = record {
+  text = usage_line i;
+  status = Usage i;
+  is_text = record { reads = []; held = λ told. held_nil holds; is_text = (refl, refl, refl) };
+  goes = tt;
+}
 asked_text (ListOf names) holds = list_text names holds
 asked_text (ShowOf name number) holds = show_text_of name number holds
 asked_text (SelectOf topology names) holds = select_text topology names holds
 
-pub tool_text : (words : List (List ℕ)) (holds : List ℕ → List ℕ) → HasText (ToolText words holds)
+pub tool_text : (words : List (List ℕ)) (holds : List ℕ → List ℕ) → HasText (FromReads (Unit {0}) holds (ToolText words))
 tool_text words holds = asked_text (asked words) holds
+
+-- a text of reads that gave what is held is one whether the files tell or not
+pub whether_told : {tells : Type 0} (holds : List ℕ → List ℕ) (texts : List Read → Option ℕ → List ℕ → Status → Type 0) → HasText (FromReads (Unit {0}) holds texts) → HasText (FromReads tells holds texts)
+whether_told holds texts has = record {
+  text = has.text;
+  status = has.status;
+  is_text = record { reads = has.is_text.reads; held = λ told. has.is_text.held tt; is_text = has.is_text.is_text };
+  goes = has.goes;
+}

@@ -1,6 +1,6 @@
--- The texts of the commands. Each has its status; the option is the number of files that were read to their ends before
--- one could not be read.
-use Rattle.std.specs.Prelude.{◌≡◌, ◌⊎◌, ℕ, suc, ◌≤◌, List, [], ◌∷◌, length, Option, Some, None, slice_get, slice_index_or}
+-- The texts of the commands, each with its status, for the reads that the command made, in their order; the option is the
+-- number of files that were read to their ends before one could not be read.
+use Rattle.std.specs.Prelude.{◌≡◌, ◌⊎◌, ℕ, ◌≤◌, List, [], ◌∷◌, length, Option, Some, None, slice_get, slice_index_or}
 use Rattle.uc_topology.specs.declared.fault.TopoCause.{TopoCause}
 use Rattle.uc_topology.specs.Stated.{Machine}
 use Rattle.top_call.specs.declared.status.Status.{Status}
@@ -8,11 +8,12 @@ use Rattle.top_call.specs.declared.status.Status.TheVariants.{Done, BadInput, Re
 use Rattle.file_entries.specs.declared.facts.EntryFacts.{EntryFacts}
 use Rattle.file_entries.specs.Reading.{Reading}
 use Rattle.file_entries.specs.Entry.{Entry, entries_from, patch_entry}
+use Rattle.file_reads.specs.Accepts.{IsMachine, RefusesTopology}
+use Rattle.file_reads.specs.Reads.{Read, Outcome, AllRead, NotRead, Refused, Reads, count_of}
 use Rattle.report_text.specs.Lines.{unread_line, fault_line, topology_line, no_entry_line}
 use Rattle.report_text.specs.Listing.{AreDateTexts, files_text}
 use Rattle.report_text.specs.Show.{show_text}
 use Rattle.report_text.specs.Offers.{AreOffers, offers_text}
-use Rattle.tool_text.specs.Reads.{Outcome, AllRead, NotRead, Refused, Reads, IsMachine, RefusesTopology}
 
 -- the entries of all files
 abbrev pub entries_of_all : List Reading → List Entry
@@ -35,9 +36,10 @@ abbrev pub Listed : List (List ℕ) → Outcome → List ℕ → Status → Type
 Listed names (AllRead readings) text Done = IsListing names readings text
 Listed names outcome text status = StopsAt outcome text status
 
-pub record ListText (names : List (List ℕ)) (holds : List ℕ → List ℕ) (files : Option ℕ) (text : List ℕ) (status : Status) : Type 0 where
+pub record ListText (names : List (List ℕ)) (reads : List Read) (files : Option ℕ) (text : List ℕ) (status : Status) : Type 0 where
   pub outcome : Outcome
-  pub reads : Reads names holds files outcome
+  pub come : Reads names reads outcome
+  pub count : files ≡ count_of outcome reads
   pub listed : Listed names outcome text status
 
 -- `show`
@@ -54,9 +56,10 @@ Shown number (AllRead readings) text Done = IsShown readings number text
 Shown number (AllRead readings) text BadInput = (length (entries_of_all readings) ≤ number) × (text ≡ no_entry_line number)
 Shown number outcome text status = StopsAt outcome text status
 
-pub record ShowText (name : List ℕ) (number : ℕ) (holds : List ℕ → List ℕ) (files : Option ℕ) (text : List ℕ) (status : Status) : Type 0 where
+pub record ShowText (name : List ℕ) (number : ℕ) (reads : List Read) (files : Option ℕ) (text : List ℕ) (status : Status) : Type 0 where
   pub outcome : Outcome
-  pub reads : Reads (name ∷ []) holds files outcome
+  pub come : Reads (name ∷ []) reads outcome
+  pub count : files ≡ count_of outcome reads
   pub shown : Shown number outcome text status
 
 -- `select`
@@ -75,34 +78,34 @@ abbrev pub Selected : Machine → Outcome → List ℕ → Status → Type 0
 Selected machine (AllRead readings) text Done = IsSelection machine readings text
 Selected machine outcome text status = StopsAt outcome text status
 
--- one file more was read before
-abbrev pub after_one : Option ℕ → Option ℕ
-after_one (Some k) = Some (suc k)
-after_one None = None
-
 -- the topology is read and states a machine, before any update file is opened
-pub record SelectsFor (topology : List ℕ) (names : List (List ℕ)) (holds : List ℕ → List ℕ) (files : Option ℕ) (text : List ℕ) (status : Status) : Type 0 where
+pub record SelectsFor (topology : List ℕ) (names : List (List ℕ)) (reads : List Read) (files : Option ℕ) (text : List ℕ) (status : Status) : Type 0 where
+  pub bytes : List ℕ
+  pub behind : List Read
+  pub first : reads ≡ record { name = topology; bytes = bytes } ∷ behind
   pub machine : Machine
-  pub is_machine : IsMachine (holds topology) machine
-  pub behind : Option ℕ
-  pub count : files ≡ after_one behind
+  pub is_machine : IsMachine bytes machine
   pub outcome : Outcome
-  pub reads : Reads names holds behind outcome
+  pub come : Reads names behind outcome
+  pub count : files ≡ count_of outcome reads
   pub selected : Selected machine outcome text status
 
--- a topology that is refused, and the line on it
-pub record IsTopologyRefusal (bytes text : List ℕ) : Type 0 where
+-- a topology that is read and refused, and the line on it
+pub record IsTopologyRefusal (topology : List ℕ) (reads : List Read) (text : List ℕ) : Type 0 where
+  pub bytes : List ℕ
+  pub only : reads ≡ record { name = topology; bytes = bytes } ∷ []
   pub line : ℕ
   pub cause : TopoCause
   pub refuses : RefusesTopology bytes line cause
   pub lines : text ≡ topology_line line cause
 
 -- or it is not read, or refused
-abbrev pub FailsAt : List ℕ → (List ℕ → List ℕ) → Option ℕ → List ℕ → Status → Type 0
-FailsAt topology holds (Some k) text ReadFault = (k ≡ 0) × (text ≡ unread_line topology)
-FailsAt topology holds None text BadInput = IsTopologyRefusal (holds topology) text
-FailsAt topology holds files text status = ⊥
+abbrev pub FailsAt : List ℕ → List Read → Option ℕ → List ℕ → Status → Type 0
+FailsAt topology reads (Some k) text ReadFault =
+    (reads ≡ []) × (k ≡ 0) × (text ≡ unread_line topology)
+FailsAt topology reads None text BadInput = IsTopologyRefusal topology reads text
+FailsAt topology reads files text status = ⊥
 
-abbrev pub SelectText : List ℕ → List (List ℕ) → (List ℕ → List ℕ) → Option ℕ → List ℕ → Status → Type 0
-SelectText topology names holds files text status =
-    FailsAt topology holds files text status ⊎ SelectsFor topology names holds files text status
+abbrev pub SelectText : List ℕ → List (List ℕ) → List Read → Option ℕ → List ℕ → Status → Type 0
+SelectText topology names reads files text status =
+    FailsAt topology reads files text status ⊎ SelectsFor topology names reads files text status

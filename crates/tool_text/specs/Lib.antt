@@ -1,4 +1,3 @@
 pub mod Commands
-pub mod Reads
 pub mod Tool
 pub mod Words

@@ -4,22 +4,29 @@ use Rattle.top_call.specs.declared.status.Status.{Status}
 use Rattle.top_call.specs.declared.status.Status.TheVariants.{Usage, WriteFault}
 use Rattle.uc_topology.specs.Stated.{Machine}
 use Rattle.file_entries.specs.Reading.{Reading}
+use Rattle.file_reads.specs.Accepts.{AreAccepted, IsMachine}
+use Rattle.file_reads.specs.Reads.{Read, AreHeld}
 use Rattle.report_text.specs.Lines.{usage_line}
 use Rattle.tool_text.specs.Words.{Asked, Faulty, ListOf, ShowOf, SelectOf, asked}
-use Rattle.tool_text.specs.Reads.{AreAccepted, IsMachine}
 use Rattle.tool_text.specs.Commands.{ListText, ShowText, SelectText, entries_of_all}
 
--- the texts for what a command line asks for, with what the files hold by their names
-abbrev pub AskedText : Asked → (List ℕ → List ℕ) → Option ℕ → List ℕ → Status → Type 0
-AskedText (Faulty i) holds None text (Usage k) = (k ≡ i) × (text ≡ usage_line i)
-AskedText (Faulty i) holds files text status = ⊥
-AskedText (ListOf names) holds files text status = ListText names holds files text status
-AskedText (ShowOf name number) holds files text status = ShowText name number holds files text status
-AskedText (SelectOf topology names) holds files text status = SelectText topology names holds files text status
+-- the texts for what a command line asks for, by the reads that were made
+abbrev pub AskedText : Asked → List Read → Option ℕ → List ℕ → Status → Type 0
+AskedText (Faulty i) reads None text (Usage k) = (reads ≡ []) × (k ≡ i) × (text ≡ usage_line i)
+AskedText (Faulty i) reads files text status = ⊥
+AskedText (ListOf names) reads files text status = ListText names reads files text status
+AskedText (ShowOf name number) reads files text status = ShowText name number reads files text status
+AskedText (SelectOf topology names) reads files text status = SelectText topology names reads files text status
 
 -- the texts for the words of a command line
-abbrev pub ToolText : List (List ℕ) → (List ℕ → List ℕ) → Option ℕ → List ℕ → Status → Type 0
-ToolText words holds = AskedText (asked words) holds
+abbrev pub ToolText : List (List ℕ) → List Read → Option ℕ → List ℕ → Status → Type 0
+ToolText words = AskedText (asked words)
+
+-- a text of some reads; where the files tell what they hold, that is what the reads gave
+pub record FromReads (tells : Type 0) (holds : List ℕ → List ℕ) (texts : List Read → Option ℕ → List ℕ → Status → Type 0) (files : Option ℕ) (text : List ℕ) (status : Status) : Type 0 where
+  pub reads : List Read
+  pub held : tells → AreHeld holds reads
+  pub is_text : texts reads files text status
 
 -- the words break the rule exactly where the status says so, but where not even that could be written
 abbrev pub UsageCause : Asked → Status → Type 0

@@ -1,5 +1,5 @@
 -- What a command wrote, and why it ended.
-use Rattle.std.proofs.Common.{◌≡◌, ◌⊎◌, inl, inr, ℕ, List, Option, Some, None, Err, IsSome, refl, sym, subst, ap, arith}
+use Rattle.std.proofs.Common.{◌≡◌, ◌⊎◌, inl, inr, ℕ, List, [], ◌∷◌, Option, Some, None, Err, IsSome, refl, sym, subst, ap, arith}
 use Rattle.std.proofs.lemmas.Bool.{false≢true}
 use Rattle.uc_bytes.specs.declared.causes.FileCause.{FileCause}
 use Rattle.uc_io.specs.Faults.{Rose}
@@ -10,11 +10,12 @@ use Rattle.top_call.specs.Causes.{ReadCause, WriteCause}
 use Rattle.top_call.specs.Written.{Written, Ends, HasText}
 use Rattle.top_call.proofs.Endings.{Written-ends, Written-memory, StartsText-nothing}
 use Rattle.report_text.specs.Lines.{unread_line, fault_line, topology_line}
-use Rattle.tool_text.specs.Reads.{Refuses, ComesTo}
+use Rattle.file_reads.specs.Reads.{Read, NotRead, Refused, ReadsOf}
+use Rattle.file_reads.proofs.Outcomes.{held_nil, held_one}
 use Rattle.tool_text.specs.Words.{Asked}
 use Rattle.tool_text.specs.Commands.{SelectText}
-use Rattle.tool_text.specs.Tool.{AskedText, CanBeDone}
-use Rattle.tool_text.proofs.SomeText.{select_text}
+use Rattle.tool_text.specs.Tool.{AskedText, FromReads, CanBeDone}
+use Rattle.tool_text.proofs.SomeText.{select_text, whether_told}
 use Rattle.tool_text.proofs.Complete.{IsEnd, complete}
 use Rattle.uc_cli.specs.Reading.{AreFilesRead, IsTopologyRead}
 use Rattle.uc_cli.specs.Refusal.{line_of, status_of}
@@ -57,20 +58,18 @@ module _ {D : Type 0} (stands : D → List ℕ → Type 0) (faults : D → ℕ) 
   memory_written texts rose status has ends = Written-memory texts rose stands faults old new status (StartsText-nothing texts rose has) ends
 
   -- a run that did not get all of its update files, by the texts for one that is not read or is refused
-  pub files_refused : (texts : Option ℕ → List ℕ → Status → Type 0) {tells : Type 0} (names : List (List ℕ)) (holds : List ℕ → List ℕ) (before now : ℕ) (refusal : Refusal) (status : Status) → HasText texts
-      → ((k : ℕ) (name : List ℕ) → ComesTo names holds k name → (j : ℕ) × texts (Some j) (unread_line name) statuses.ReadFault)
-      → ((k : ℕ) (name : List ℕ) (offset : ℕ) (cause : FileCause) → ComesTo names holds k name → Refuses (holds name) offset cause → texts None (fault_line name offset cause) statuses.BadInput)
-      → tells → AreFilesRead tells names holds before now (Err refusal) → Ends stands faults old new (line_of refusal) (status_of refusal) status → Written texts (Rose before now) stands old new status
-  files_refused texts names holds before now (Unread name) status has unread bad tell read ends =
-      let comes = read.1 tell in
-      let text = unread comes.0 name.now comes.1 in
+  pub files_refused : (texts : Option ℕ → List ℕ → Status → Type 0) (tells : Type 0) (names : List (List ℕ)) (holds : List ℕ → List ℕ) (before now : ℕ) (refusal : Refusal) (status : Status) → HasText texts
+      → ((name : List ℕ) → ReadsOf tells holds names (NotRead name) → (k : ℕ) × texts (Some k) (unread_line name) statuses.ReadFault)
+      → ((name : List ℕ) (offset : ℕ) (cause : FileCause) → ReadsOf tells holds names (Refused name offset cause) → texts None (fault_line name offset cause) statuses.BadInput)
+      → AreFilesRead tells names holds before now (Err refusal) → Ends stands faults old new (line_of refusal) (status_of refusal) status → Written texts (Rose before now) stands old new status
+  files_refused texts tells names holds before now (Unread name) status has unread bad read ends =
+      let text = unread name.now read.1 in
       unread_written texts (Rose before now) text.0 (unread_line name.now) status read.0 text.1 ends
-  files_refused texts names holds before now (BadFile name fault) status has unread bad tell read ends =
-      let comes = read.1 tell in
-      bad_written texts (Rose before now) (fault_line name.now fault.offset fault.cause) status (bad comes.0 name.now fault.offset fault.cause comes.1 comes.2) ends
-  files_refused texts names holds before now (BadTopology fault) status has unread bad tell read ends = absurd read
-  files_refused texts names holds before now (NoEntry number) status has unread bad tell read ends = absurd read
-  files_refused texts names holds before now NoMemory status has unread bad tell read ends =
+  files_refused texts tells names holds before now (BadFile name fault) status has unread bad read ends =
+      bad_written texts (Rose before now) (fault_line name.now fault.offset fault.cause) status (bad name.now fault.offset fault.cause read.1) ends
+  files_refused texts tells names holds before now (BadTopology fault) status has unread bad read ends = absurd read
+  files_refused texts tells names holds before now (NoEntry number) status has unread bad read ends = absurd read
+  files_refused texts tells names holds before now NoMemory status has unread bad read ends =
       memory_written texts (Rose before now) status has ends
 
   -- the causes of such an end
@@ -83,37 +82,50 @@ module _ {D : Type 0} (stands : D → List ℕ → Type 0) (faults : D → ℕ) 
   files_cause tells names holds before now NoMemory read = (tt, tt)
 
   -- a run that did not get its topology
-  pub topology_refused : {tells : Type 0} (topology : List ℕ) (names : List (List ℕ)) (holds : List ℕ → List ℕ) (before now : ℕ) (refusal : Refusal) (status : Status) → tells
-      → IsTopologyRead tells topology (holds topology) before now (Err refusal) → Ends stands faults old new (line_of refusal) (status_of refusal) status → Written (SelectText topology names holds) (Rose before now) stands old new status
-  topology_refused topology names holds before now (Unread name) status tell read ends =
-      unread_written (SelectText topology names holds) (Rose before now) 0 (unread_line name.now) status read.0 (inl (refl, ap unread_line read.1)) ends
-  topology_refused topology names holds before now (BadFile name fault) status tell read ends = absurd read
-  topology_refused topology names holds before now (BadTopology fault) status tell read ends =
-      bad_written (SelectText topology names holds) (Rose before now) (topology_line fault.line fault.cause) status
-      (inl (record { line = fault.line; cause = fault.cause; refuses = read.1 tell; lines = refl }))
+  pub topology_refused : (tells : Type 0) (topology : List ℕ) (names : List (List ℕ)) (holds : List ℕ → List ℕ) (before now : ℕ) (refusal : Refusal) (status : Status)
+      → IsTopologyRead tells topology (holds topology) before now (Err refusal) → Ends stands faults old new (line_of refusal) (status_of refusal) status
+      → Written (FromReads tells holds (SelectText topology names)) (Rose before now) stands old new status
+  topology_refused tells topology names holds before now (Unread name) status read ends =
+      unread_written (FromReads tells holds (SelectText topology names)) (Rose before now) 0 (unread_line name.now) status read.0
+      (record { reads = []; held = λ told. held_nil holds; is_text = inl (refl, refl, ap unread_line read.1) })
       ends
-  topology_refused topology names holds before now (NoEntry number) status tell read ends = absurd read
-  topology_refused topology names holds before now NoMemory status tell read ends =
-      memory_written (SelectText topology names holds) (Rose before now) status (select_text topology names holds) ends
+  topology_refused tells topology names holds before now (BadFile name fault) status read ends = absurd read
+  topology_refused tells topology names holds before now (BadTopology fault) status read ends =
+      let bytes = read.1.0 in
+      let first : Read = record { name = topology; bytes = bytes } in
+      bad_written (FromReads tells holds (SelectText topology names)) (Rose before now) (topology_line fault.line fault.cause) status
+      (record {
+        reads = first ∷ [];
+        held = λ told. held_one holds first (read.1.1 told);
+        is_text = inl (record { bytes = bytes; only = refl; line = fault.line; cause = fault.cause; refuses = read.1.2; lines = refl });
+      })
+      ends
+  topology_refused tells topology names holds before now (NoEntry number) status read ends = absurd read
+  topology_refused tells topology names holds before now NoMemory status read ends =
+      memory_written (FromReads tells holds (SelectText topology names)) (Rose before now) status (whether_told holds (SelectText topology names) (select_text topology names holds)) ends
 
 -- a status that is no end of a run that could be done
 not_end : (status : Status) → (code_of status ≡ 0 → ⊥) → (code_of status ≡ 4 → ⊥) → IsEnd status → ⊥
 not_end status not_done not_unread (inl done) = not_done (ap code_of done)
 not_end status not_done not_unread (inr unread) = not_unread (ap code_of unread)
 
+-- a text of files that tell and can be done is no end but these
+told_end : (tells : Type 0) (line : Asked) (holds : List ℕ → List ℕ) (files : Option ℕ) (text : List ℕ) (status : Status) → tells → CanBeDone line holds → FromReads tells holds (AskedText line) files text status → IsEnd status
+told_end tells line holds files text status tell can is = complete holds is.reads (is.held tell) line files text status can is.is_text
+
 -- what can be done is done, where no count of faults rose and memory is there
-pub done_or_memory : {D : Type 0} (stands : D → List ℕ → Type 0) (old new : D) (line : Asked) (holds : List ℕ → List ℕ) (rose : Type 0) (read wrote : ℕ × ℕ) (status : Status) → CanBeDone line holds
-    → Written (AskedText line holds) rose stands old new status → ReadCause read.0 read.1 status → WriteCause wrote.0 wrote.1 status → (Rose read.0 read.1 → ⊥) → (Rose wrote.0 wrote.1 → ⊥)
+pub done_or_memory : {D : Type 0} (stands : D → List ℕ → Type 0) (old new : D) (tells : Type 0) (line : Asked) (holds : List ℕ → List ℕ) (rose : Type 0) (read wrote : ℕ × ℕ) (status : Status) → tells → CanBeDone line holds
+    → Written (FromReads tells holds (AskedText line)) rose stands old new status → ReadCause read.0 read.1 status → WriteCause wrote.0 wrote.1 status → (Rose read.0 read.1 → ⊥) → (Rose wrote.0 wrote.1 → ⊥)
     → (status ≡ statuses.Done) ⊎ (status ≡ statuses.NoMemory)
-done_or_memory stands old new line holds rose read wrote statuses.Done can written rc wc no_read no_write = inl refl
-done_or_memory stands old new line holds rose read wrote (statuses.Usage k) can written rc wc no_read no_write =
-    absurd (not_end (statuses.Usage k) (λ e. omega (arith, e)) (λ e. omega (arith, e)) (complete line holds written.files written.text _ can written.is_text))
-done_or_memory stands old new line holds rose read wrote statuses.BadInput can written rc wc no_read no_write =
-    absurd (not_end statuses.BadInput (λ e. omega (arith, e)) (λ e. omega (arith, e)) (complete line holds written.files written.text _ can written.is_text))
-done_or_memory stands old new line holds rose read wrote statuses.Short can written rc wc no_read no_write =
-    absurd (not_end statuses.Short (λ e. omega (arith, e)) (λ e. omega (arith, e)) (complete line holds written.files written.text _ can written.is_text))
-done_or_memory stands old new line holds rose read wrote statuses.ReadFault can written rc wc no_read no_write = absurd (no_read rc)
-done_or_memory stands old new line holds rose read wrote statuses.WriteFault can written rc wc no_read no_write = absurd (no_write wc)
-done_or_memory stands old new line holds rose read wrote (statuses.Panicked t) can written rc wc no_read no_write =
-    absurd (not_end (statuses.Panicked t) (λ e. omega (arith, e)) (λ e. omega (arith, e)) (complete line holds written.files written.text _ can written.is_text))
-done_or_memory stands old new line holds rose read wrote statuses.NoMemory can written rc wc no_read no_write = inr refl
+done_or_memory stands old new tells line holds rose read wrote statuses.Done tell can written rc wc no_read no_write = inl refl
+done_or_memory stands old new tells line holds rose read wrote (statuses.Usage k) tell can written rc wc no_read no_write =
+    absurd (not_end (statuses.Usage k) (λ e. omega (arith, e)) (λ e. omega (arith, e)) (told_end tells line holds written.files written.text _ tell can written.is_text))
+done_or_memory stands old new tells line holds rose read wrote statuses.BadInput tell can written rc wc no_read no_write =
+    absurd (not_end statuses.BadInput (λ e. omega (arith, e)) (λ e. omega (arith, e)) (told_end tells line holds written.files written.text _ tell can written.is_text))
+done_or_memory stands old new tells line holds rose read wrote statuses.Short tell can written rc wc no_read no_write =
+    absurd (not_end statuses.Short (λ e. omega (arith, e)) (λ e. omega (arith, e)) (told_end tells line holds written.files written.text _ tell can written.is_text))
+done_or_memory stands old new tells line holds rose read wrote statuses.ReadFault tell can written rc wc no_read no_write = absurd (no_read rc)
+done_or_memory stands old new tells line holds rose read wrote statuses.WriteFault tell can written rc wc no_read no_write = absurd (no_write wc)
+done_or_memory stands old new tells line holds rose read wrote (statuses.Panicked t) tell can written rc wc no_read no_write =
+    absurd (not_end (statuses.Panicked t) (λ e. omega (arith, e)) (λ e. omega (arith, e)) (told_end tells line holds written.files written.text _ tell can written.is_text))
+done_or_memory stands old new tells line holds rose read wrote statuses.NoMemory tell can written rc wc no_read no_write = inr refl

@@ -1,12 +1,13 @@
--- What the reading of files gave.
-use Rattle.std.specs.Prelude.{◌≡◌, ℕ, ◌≤◌, List, length, map, Result, Ok, Err}
+-- What the reading of files gave. Where the files tell what they hold, that is what was read.
+use Rattle.std.specs.Prelude.{◌≡◌, ℕ, ◌≤◌, List, length, Result, Ok, Err}
 use Rattle.uc_io.specs.Faults.{Rose}
 use Rattle.uc_topology.specs.Stated.{Machine}
 use Rattle.file_entries.specs.Reading.{Reading}
 use Rattle.file_entries.specs.Entry.{entries_from}
 use Rattle.uc_catalog.specs.Contents.{Contents, Adds}
-use Rattle.tool_text.specs.declared.TheConstants.{FILE_LIMIT}
-use Rattle.tool_text.specs.Reads.{Refuses, AreAccepted, ComesTo, IsMachine, RefusesTopology}
+use Rattle.file_reads.specs.declared.TheConstants.{FILE_LIMIT}
+use Rattle.file_reads.specs.Accepts.{Refuses, AreAccepted, IsMachine, RefusesTopology}
+use Rattle.file_reads.specs.Reads.{Read, names_of, files_of, AreHeld, NotRead, Refused, ReadsOf}
 use Rattle.uc_cli.specs.declared.refusal.Refusal.{Refusal}
 use Rattle.uc_cli.specs.declared.refusal.Refusal.TheVariants.{Unread, BadFile, BadTopology, NoMemory}
 
@@ -18,33 +19,36 @@ IsUpdateRead tells name held before now old new (Ok _) =
 IsUpdateRead tells name held before now old new (Err (Unread which)) =
     Rose before now × (which.now ≡ name) × (new ≡ old)
 IsUpdateRead tells name held before now old new (Err (BadFile which fault)) =
-    (now ≡ before) × (which.now ≡ name) × (tells → Refuses held fault.offset fault.cause) × (new ≡ old)
+    (now ≡ before) × (which.now ≡ name) × ((bytes : List ℕ) × (tells → bytes ≡ held) × Refuses bytes fault.offset fault.cause) × (new ≡ old)
 IsUpdateRead tells name held before now old new (Err NoMemory) = (now ≡ before) × (new ≡ old)
 IsUpdateRead tells name held before now old new (Err refusal) = ⊥
 
--- the catalogue is that of the files of these names
+-- the catalogue is that of the files that were read under these names
 pub record IsOfFiles (tells : Type 0) (names : List (List ℕ)) (holds : List ℕ → List ℕ) (contents : Contents) : Type 0 where
+  pub reads : List Read
+  pub held : tells → AreHeld holds reads
+  pub in_order : names_of reads ≡ names
   pub readings : List Reading
-  pub accepted : AreAccepted contents.files readings
+  pub accepted : AreAccepted (files_of reads) readings
+  pub files : contents.files ≡ files_of reads
   pub entries : contents.entries ≡ entries_from 0 readings
-  pub count : length contents.files ≡ length names
-  pub of_names : tells → contents.files ≡ map holds names
 
 -- all files stand in the catalogue, or the first that is not read or is refused decides
 abbrev pub AreFilesRead : Type 0 → List (List ℕ) → (List ℕ → List ℕ) → ℕ → ℕ → Result Contents Refusal → Type 0
 AreFilesRead tells names holds before now (Ok contents) = (now ≡ before) × IsOfFiles tells names holds contents
 AreFilesRead tells names holds before now (Err (Unread name)) =
-    Rose before now × (tells → (k : ℕ) × ComesTo names holds k name.now)
+    Rose before now × ReadsOf tells holds names (NotRead name.now)
 AreFilesRead tells names holds before now (Err (BadFile name fault)) =
-    (now ≡ before) × (tells → (k : ℕ) × ComesTo names holds k name.now × Refuses (holds name.now) fault.offset fault.cause)
+    (now ≡ before) × ReadsOf tells holds names (Refused name.now fault.offset fault.cause)
 AreFilesRead tells names holds before now (Err NoMemory) = now ≡ before
 AreFilesRead tells names holds before now (Err refusal) = ⊥
 
--- the topology that a file states, or why it is refused
+-- the topology that the bytes of a file state, or why it is refused
 abbrev pub IsTopologyRead : Type 0 → List ℕ → List ℕ → ℕ → ℕ → Result Machine Refusal → Type 0
-IsTopologyRead tells name held before now (Ok machine) = (now ≡ before) × (tells → IsMachine held machine)
+IsTopologyRead tells name held before now (Ok machine) =
+    (now ≡ before) × ((bytes : List ℕ) × (tells → bytes ≡ held) × IsMachine bytes machine)
 IsTopologyRead tells name held before now (Err (Unread which)) = Rose before now × (which.now ≡ name)
 IsTopologyRead tells name held before now (Err (BadTopology fault)) =
-    (now ≡ before) × (tells → RefusesTopology held fault.line fault.cause)
+    (now ≡ before) × ((bytes : List ℕ) × (tells → bytes ≡ held) × RefusesTopology bytes fault.line fault.cause)
 IsTopologyRead tells name held before now (Err NoMemory) = now ≡ before
 IsTopologyRead tells name held before now (Err refusal) = ⊥

@@ -3,8 +3,8 @@ ghost use Rattle.std.specs.Prelude.{◌≡◌, ◌<◌, ◌≤◌, length};
 ghost use Rattle.uc_cli.specs.Reading.{IsUpdateRead, AreFilesRead, IsTopologyRead};
 
 use crate::refusal::Refusal;
+use file_reads::{FILE_LIMIT, TOPOLOGY_LIMIT};
 use std::alloc::Global;
-use tool_text::{FILE_LIMIT, TOPOLOGY_LIMIT};
 use uc_bytes::{FileAnswer, FileCause, FileFault, Text};
 use uc_catalog::Catalog;
 use uc_io::{Files, ReadAnswer};
@@ -21,6 +21,7 @@ fn read_update<'a, F: Files>(
     ensures answer { IsUpdateRead (F.tells files.old) name.now (F.holds files.old name.now) (F.faults files.old) (F.faults files.new) catalog.old catalog.new result }
     ensures same { F.holds files.new ≡ F.holds files.old }
     ensures still { F.tells files.old → F.tells files.new }
+    ensures later { F.faults files.old ≤ F.faults files.new }
 {
     let bytes = match files.read(alloc, name.as_str(), FILE_LIMIT) {
         Ok(bytes) => bytes,
@@ -52,6 +53,9 @@ pub fn read_files<'a, F: Files>(
 ) -> Result<Catalog, Refusal<'a>>
     requires { length names.now ≤ 16 }
     ensures answer { AreFilesRead (F.tells files.old) names.now (F.holds files.old) (F.faults files.old) (F.faults files.new) result }
+    ensures same { F.holds files.new ≡ F.holds files.old }
+    ensures still { F.tells files.old → F.tells files.new }
+    ensures later { F.faults files.old ≤ F.faults files.new }
 {
     let mut catalog = Catalog::new(alloc);
     'names: for name in names {
@@ -72,6 +76,7 @@ pub fn read_machine<'a, F: Files>(
     ensures answer { IsTopologyRead (F.tells files.old) name.now (F.holds files.old name.now) (F.faults files.old) (F.faults files.new) result }
     ensures same { F.holds files.new ≡ F.holds files.old }
     ensures still { F.tells files.old → F.tells files.new }
+    ensures later { F.faults files.old ≤ F.faults files.new }
 {
     let bytes = match files.read(alloc, name.as_str(), TOPOLOGY_LIMIT) {
         Ok(bytes) => bytes,

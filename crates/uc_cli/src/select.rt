@@ -4,7 +4,7 @@ ghost use Rattle.uc_io.specs.Faults.{Rose};
 ghost use Rattle.top_call.specs.Causes.{ReadCause, WriteCause};
 ghost use Rattle.top_call.specs.Written.{Written};
 ghost use Rattle.tool_text.specs.Commands.{SelectText};
-ghost use Rattle.tool_text.specs.Tool.{UsageCause};
+ghost use Rattle.tool_text.specs.Tool.{FromReads, UsageCause};
 ghost use Rattle.tool_text.specs.Words.{SelectOf};
 ghost use Rattle.uc_cli.specs.Selecting.{cores_of, PutsOffers};
 
@@ -61,10 +61,13 @@ pub fn select<F: Files, S: Sink>(
     out: &mut S,
 ) -> Status
     requires { length names.now ≤ 16 }
-    ensures written { F.tells files.old → Written (SelectText topology.now names.now (F.holds files.old)) (Rose (F.faults files.old) (F.faults files.new)) S.stands out.old out.new result }
+    ensures written { Written (FromReads (F.tells files.old) (F.holds files.old) (SelectText topology.now names.now)) (Rose (F.faults files.old) (F.faults files.new)) S.stands out.old out.new result }
     ensures usage { UsageCause (SelectOf topology.now names.now) result }
     ensures read_cause { ReadCause (F.faults files.old) (F.faults files.new) result }
     ensures write_cause { WriteCause (S.faults out.old) (S.faults out.new) result }
+    ensures same { F.holds files.new ≡ F.holds files.old }
+    ensures still { F.tells files.old → F.tells files.new }
+    ensures later { F.faults files.old ≤ F.faults files.new }
 {
     let machine = match read_machine(alloc, topology, files) {
         Ok(machine) => machine,

@@ -1,10 +1,10 @@
 //! `show`: one entry of an update file, with its bytes.
-ghost use Rattle.std.specs.Prelude.{◌≡◌};
+ghost use Rattle.std.specs.Prelude.{◌≡◌, ◌≤◌};
 ghost use Rattle.uc_io.specs.Faults.{Rose};
 ghost use Rattle.top_call.specs.Causes.{ReadCause, WriteCause};
 ghost use Rattle.top_call.specs.Written.{Written};
 ghost use Rattle.tool_text.specs.Commands.{ShowText};
-ghost use Rattle.tool_text.specs.Tool.{UsageCause};
+ghost use Rattle.tool_text.specs.Tool.{FromReads, UsageCause};
 ghost use Rattle.tool_text.specs.Words.{ShowOf};
 
 use crate::reading::read_files;
@@ -24,10 +24,13 @@ pub fn show<F: Files, S: Sink>(
     files: &mut F,
     out: &mut S,
 ) -> Status
-    ensures written { F.tells files.old → Written (ShowText name.now number (F.holds files.old)) (Rose (F.faults files.old) (F.faults files.new)) S.stands out.old out.new result }
+    ensures written { Written (FromReads (F.tells files.old) (F.holds files.old) (ShowText name.now number)) (Rose (F.faults files.old) (F.faults files.new)) S.stands out.old out.new result }
     ensures usage { UsageCause (ShowOf name.now number) result }
     ensures read_cause { ReadCause (F.faults files.old) (F.faults files.new) result }
     ensures write_cause { WriteCause (S.faults out.old) (S.faults out.new) result }
+    ensures same { F.holds files.new ≡ F.holds files.old }
+    ensures still { F.tells files.old → F.tells files.new }
+    ensures later { F.faults files.old ≤ F.faults files.new }
 {
     match read_files(alloc, from_ref(name), files) {
         Ok(catalog) => {

@@ -1,9 +1,9 @@
-ghost use Rattle.std.specs.Prelude.{◌≡◌, ◌⊎◌};
+ghost use Rattle.std.specs.Prelude.{◌≡◌, ◌⊎◌, ◌≤◌};
 ghost use Rattle.uc_io.specs.Faults.{Rose};
 ghost use Rattle.top_call.specs.declared.status.Status.TheVariants.{Done, NoMemory};
 ghost use Rattle.top_call.specs.Causes.{ReadCause, WriteCause};
 ghost use Rattle.top_call.specs.Written.{Written};
-ghost use Rattle.tool_text.specs.Tool.{AskedText, ToolText, UsageCause, CanBeDone};
+ghost use Rattle.tool_text.specs.Tool.{AskedText, ToolText, FromReads, UsageCause, CanBeDone};
 ghost use Rattle.tool_text.specs.Words.{asked};
 ghost use Rattle.uc_cli.specs.Words.{asked_of, HasFewNames};
 
@@ -20,10 +20,13 @@ use uc_report::put_usage;
 /// Runs a command.
 fn run<F: Files, S: Sink>(alloc: Global, command: Command<'_>, files: &mut F, out: &mut S) -> Status
     requires { HasFewNames command }
-    ensures written { F.tells files.old → Written (AskedText (asked_of command.entry) (F.holds files.old)) (Rose (F.faults files.old) (F.faults files.new)) S.stands out.old out.new result }
+    ensures written { Written (FromReads (F.tells files.old) (F.holds files.old) (AskedText (asked_of command.entry))) (Rose (F.faults files.old) (F.faults files.new)) S.stands out.old out.new result }
     ensures usage { UsageCause (asked_of command.entry) result }
     ensures read_cause { ReadCause (F.faults files.old) (F.faults files.new) result }
     ensures write_cause { WriteCause (S.faults out.old) (S.faults out.new) result }
+    ensures same { F.holds files.new ≡ F.holds files.old }
+    ensures still { F.tells files.old → F.tells files.new }
+    ensures later { F.faults files.old ≤ F.faults files.new }
 {
     match command {
         Command::List(names) => list(alloc, names, files, out),
@@ -34,20 +37,25 @@ fn run<F: Files, S: Sink>(alloc: Global, command: Command<'_>, files: &mut F, ou
 
 /// Does all that the program `ucode` does: `words` are those after the program's name.
 ///
-/// Where the files tell what they hold, `written` says that the sink took a text of `ToolText` and the status is that
-/// text's; after a write fault or want of memory it took a front of one; and `done` that all is done, or memory ran out,
-/// where every file has a reading, a number is that of an entry, and no count of faults rose. The other clauses hold of any
-/// files: each status but `Done`, `BadInput` and `NoMemory` has its cause in the words or in a count of faults.
+/// `written` says that the sink took a text of `ToolText`, for the bytes that were read, and the status is that text's;
+/// after a write fault or want of memory it took a front of one. Where the files tell what they hold, each read gave what
+/// its name holds. The next clauses say that each status but `Done`, `BadInput` and `NoMemory` has its cause in the words
+/// or in a count of faults; `same` and `still`, that every name still holds what it held, and that files that told this
+/// still tell it. `done`, of files that tell: all is done, or memory ran out, where every file has a reading, a number is
+/// that of an entry, and no count of faults rose.
 pub fn run_tool<F: Files, S: Sink>(
     alloc: Global,
     words: &[Text],
     files: &mut F,
     out: &mut S,
 ) -> Status
-    ensures written { F.tells files.old → Written (ToolText words.now (F.holds files.old)) (Rose (F.faults files.old) (F.faults files.new)) S.stands out.old out.new result }
+    ensures written { Written (FromReads (F.tells files.old) (F.holds files.old) (ToolText words.now)) (Rose (F.faults files.old) (F.faults files.new)) S.stands out.old out.new result }
     ensures usage { UsageCause (asked words.now) result }
     ensures read_cause { ReadCause (F.faults files.old) (F.faults files.new) result }
     ensures write_cause { WriteCause (S.faults out.old) (S.faults out.new) result }
+    ensures same { F.holds files.new ≡ F.holds files.old }
+    ensures still { F.tells files.old → F.tells files.new }
+    ensures later { F.faults files.old ≤ F.faults files.new }
     ensures done { F.tells files.old → CanBeDone (asked words.now) (F.holds files.old) → (Rose (F.faults files.old) (F.faults files.new) → ⊥) → (Rose (S.faults out.old) (S.faults out.new) → ⊥) → (result ≡ Done) ⊎ (result ≡ NoMemory) }
 {
     match read_words(words) {

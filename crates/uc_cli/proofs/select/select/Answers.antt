@@ -1,52 +1,104 @@
-use Rattle.std.proofs.Common.{ℕ, suc, List, Some, None, Err, inr, map, refl, subst, ap, ◌∙◌}
+use Rattle.std.proofs.Common.{ℕ, suc, ◌≡◌, List, ◌∷◌, Err, inr, length, refl, subst}
 use Rattle.top_call.specs.declared.status.Status.TheVariants.{Done}
 use Rattle.top_call.proofs.Endings.{Ends-written}
 use Rattle.file_entries.specs.Entry.{Entry}
+use Rattle.file_reads.specs.Reads.{Read, AreHeld, AllRead, NotRead, Refused}
+use Rattle.file_reads.proofs.Outcomes.{held_cons}
 use Rattle.report_text.specs.Offers.{offers_text}
-use Rattle.tool_text.specs.Reads.{AllRead, NotRead, Refused, AreAccepted}
 use Rattle.tool_text.specs.Commands.{SelectText, facts_at, entries_of_all}
-use Rattle.tool_text.proofs.SomeText.{select_text}
+use Rattle.tool_text.specs.Tool.{FromReads}
+use Rattle.tool_text.proofs.SomeText.{select_text, whether_told}
 use Rattle.uc_cli.specs.Reading.{AreFilesRead}
 use Rattle.uc_cli.specs.Selecting.{PutsOffers}
 use Rattle.uc_cli.proofs.Endings.{done_written, files_refused, topology_refused}
 use Rattle.uc_cli.proofs.select.select.Goals as goal
 
+-- the reads behind the topology's are of files that tell what they told before
+held_behind : (tells told : Type 0) (before holds : List ℕ → List ℕ) (topology bytes : List ℕ) (reads : List Read) → (tells → told) → before ≡ holds → (tells → bytes ≡ holds topology) → (told → AreHeld before reads) → tells
+    → AreHeld holds (record { name = topology; bytes = bytes } ∷ reads)
+held_behind tells told before holds topology bytes reads still same first behind tell =
+    held_cons holds (record { name = topology; bytes = bytes }) reads (first tell) (subst (λ (h : List ℕ → List ℕ). AreHeld h reads) same (behind (still tell)))
+
 pub returns-in-Err-clause-written : goal.returns-in-Err-clause-written
-returns-in-Err-clause-written g c = λ tell.
-    topology_refused g.S.Sink.stands g.S.Sink.faults _ _ c.args.topology.now c.args.names.now (g.F.Files.holds c.args.files.now) _ _ c.in-Err.refusal _ tell c.in-Err.ensures.answer c.refuse.ensures
+returns-in-Err-clause-written g c =
+    topology_refused g.S.Sink.stands g.S.Sink.faults _ _ _ c.args.topology.now c.args.names.now (g.F.Files.holds c.args.files.now) _ _ c.in-Err.refusal _ c.in-Err.ensures.answer c.refuse.ensures
 
 pub returns-in-Ok-read_files-clause-written : goal.returns-in-Ok-read_files-clause-written
-returns-in-Ok-read_files-clause-written g c = λ tell.
+returns-in-Ok-read_files-clause-written g c =
+    let topology = c.args.topology.now in
+    let names = c.args.names.now in
+    let tells = g.F.Pieces.tells c.args.files.now in
     let holds = g.F.Files.holds c.args.files.now in
+    let stated = c.in-Ok.ensures.answer.1 in
     let of = c.in-Ok-read_files.ensures.answer.1 in
-    let files = of.of_names (c.in-Ok.ensures.still tell) ∙ ap (λ (h : List ℕ → List ℕ). map h c.args.names.now) c.in-Ok.ensures.same in
     let puts = subst (λ (entries : List Entry). PutsOffers g.S.Sink.stands g.S.Sink.faults c.args.out.now c.put_selection.new.out c.in-Ok.machine entries c.put_selection.result) of.entries c.put_selection.ensures in
-    done_written g.S.Sink.stands g.S.Sink.faults _ _ (SelectText c.args.topology.now c.args.names.now holds) _ (offers_text c.in-Ok.machine (facts_at (entries_of_all of.readings)) puts.offers) _
-    (inr
+    done_written g.S.Sink.stands g.S.Sink.faults _ _ (FromReads tells holds (SelectText topology names)) _ (offers_text c.in-Ok.machine (facts_at (entries_of_all of.readings)) puts.offers) _
     (record {
-      machine = c.in-Ok.machine;
-      is_machine = c.in-Ok.ensures.answer.1 tell;
-      behind = None;
-      count = refl;
-      outcome = AllRead of.readings;
-      reads = subst (λ (fs : List (List ℕ)). AreAccepted fs of.readings) files of.accepted;
-      selected = record { offers = puts.offers; are_offers = puts.are_offers; lines = refl };
-    }))
+      reads = record { name = topology; bytes = stated.0 } ∷ of.reads;
+      held = held_behind tells _ _ holds topology stated.0 of.reads c.in-Ok.ensures.still c.in-Ok.ensures.same stated.1 of.held;
+      is_text = inr
+          (record {
+            bytes = stated.0;
+            behind = of.reads;
+            first = refl;
+            machine = c.in-Ok.machine;
+            is_machine = stated.2;
+            outcome = AllRead of.readings;
+            come = (of.in_order, of.accepted);
+            count = refl;
+            selected = record { offers = puts.offers; are_offers = puts.are_offers; lines = refl };
+          });
+    })
     (Ends-written g.S.Sink.stands g.S.Sink.faults _ _ _ Done _ _ puts.wrote c.after_write.ensures)
 
 pub returns-in-Err-read_files-clause-written : goal.returns-in-Err-read_files-clause-written
-returns-in-Err-read_files-clause-written g c = λ tell.
-    let holds = g.F.Files.holds c.args.files.now in
+returns-in-Err-read_files-clause-written g c =
+    let topology = c.args.topology.now in
     let names = c.args.names.now in
-    let machine = c.in-Ok.machine in
-    let is = c.in-Ok.ensures.answer.1 tell in
+    let tells = g.F.Pieces.tells c.args.files.now in
     let told = g.F.Pieces.tells c.read_machine.new.files in
-    let after = g.F.Pieces.faults c.read_files.new.files in
-    let of_holds = subst (λ (h : List ℕ → List ℕ). AreFilesRead told names h (g.F.Pieces.faults c.read_machine.new.files) after (Err c.in-Err-read_files.refusal)) c.in-Ok.ensures.same c.in-Err-read_files.ensures.answer in
-    let read = subst (λ (before : ℕ). AreFilesRead told names holds before after (Err c.in-Err-read_files.refusal)) c.in-Ok.ensures.answer.0 of_holds in
-    files_refused g.S.Sink.stands g.S.Sink.faults _ _ (SelectText c.args.topology.now names holds) names holds _ _ c.in-Err-read_files.refusal _ (select_text c.args.topology.now names holds)
-    (λ k name comes. (suc k, inr (record { machine = machine; is_machine = is; behind = Some k; count = refl; outcome = NotRead name; reads = comes; selected = refl })))
-    (λ k name offset cause comes refuses. inr (record { machine = machine; is_machine = is; behind = None; count = refl; outcome = Refused name offset cause; reads = (k, comes, refuses); selected = refl }))
-    (c.in-Ok.ensures.still tell)
+    let holds = g.F.Files.holds c.args.files.now in
+    let before = g.F.Files.holds c.read_machine.new.files in
+    let machine = c.in-Ok.machine in
+    let stated = c.in-Ok.ensures.answer.1 in
+    let read = subst (λ (count : ℕ). AreFilesRead told names before count (g.F.Pieces.faults c.read_files.new.files) (Err c.in-Err-read_files.refusal)) c.in-Ok.ensures.answer.0 c.in-Err-read_files.ensures.answer in
+    let held = λ (reads : List Read). held_behind tells told before holds topology stated.0 reads c.in-Ok.ensures.still c.in-Ok.ensures.same stated.1 in
+    files_refused g.S.Sink.stands g.S.Sink.faults _ _ (FromReads tells holds (SelectText topology names)) told names before _ _ c.in-Err-read_files.refusal _ (whether_told holds (SelectText topology names) (select_text topology names holds))
+    (λ name of. (
+      suc (length of.reads),
+      record {
+        reads = record { name = topology; bytes = stated.0 } ∷ of.reads;
+        held = held of.reads of.held;
+        is_text = inr
+            (record {
+              bytes = stated.0;
+              behind = of.reads;
+              first = refl;
+              machine = machine;
+              is_machine = stated.2;
+              outcome = NotRead name;
+              come = of.come;
+              count = refl;
+              selected = refl;
+            });
+      },
+    ))
+    (λ name offset cause of.
+    record {
+      reads = record { name = topology; bytes = stated.0 } ∷ of.reads;
+      held = held of.reads of.held;
+      is_text = inr
+          (record {
+            bytes = stated.0;
+            behind = of.reads;
+            first = refl;
+            machine = machine;
+            is_machine = stated.2;
+            outcome = Refused name offset cause;
+            come = of.come;
+            count = refl;
+            selected = refl;
+          });
+    })
     read
     c.refuse-in-Err-read_files.ensures
