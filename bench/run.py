@@ -104,10 +104,10 @@ def measure(ucode, source):
     above = peak_above(large, os.path.getsize("large.bin"))
 
     text = make_file("whole.bin", 65536, 64)
-    writes, lines = writes_of(whole), text.count(b"\n")
+    writes = writes_of(whole)
     expect(whole, b"".join(writes), text)
-    text = make_file("half.bin", 32768, 64)
-    expect(half, b"".join(writes_of(half)), text)
+    half_text = make_file("half.bin", 32768, 64)
+    expect(half, b"".join(writes_of(half)), half_text)
     to_half = time_ratio(whole, half)
 
     for cores in (128, 256):
@@ -127,7 +127,8 @@ def measure(ucode, source):
     return [
         ("64 MiB in 4,096 updates: time, to the plain reader's", f"{to_reader:.2f}", "at most 1.3"),
         ("64 MiB in 4,096 updates: peak memory", f"the file's size and {above:.1f} MiB", "the file's size and at most 32 MiB"),
-        ("4 MiB in 65,536 updates: writes, to lines", f"{len(writes):,} to {lines:,}", "65,537 to 65,537"),
+        ("4 MiB in 65,536 updates: writes, to blocks of 64 KiB", f"{len(writes):,} to {-(-len(text) // 65536):,}",
+         "one for each"),
         ("4 MiB in 65,536 updates: time, to that of 32,768", f"{to_half:.2f}", "about 2"),
         ("16 such files: time, to that of 8", f"{time_ratio(sixteen, eight, 5):.2f}", "about 2"),
         ("16 such files: peak memory", f"the files' size and {peak_above(sixteen, 16 * of_files):.1f} MiB",

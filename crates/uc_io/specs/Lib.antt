@@ -1,6 +1,7 @@
 pub mod Contents
 pub mod Failing
 pub mod Faults
+pub mod Gathering
 pub mod Host
 pub mod Limits
 pub mod Memory

@@ -7,6 +7,7 @@
 
 mod contents;
 mod files;
+mod gathering;
 mod host_files;
 mod lines;
 mod memory_files;

@@ -1,4 +1,6 @@
 use super::*;
+use crate::gathering::{gather, hand_on};
+use arrayvec::ArrayVec;
 use std::alloc::{AllocError, Global};
 use std::fs;
 use std::test::Fail;
@@ -161,5 +163,31 @@ fn standard_output_takes_a_line(rt: HostRuntime) -> Result<(), Fail> {
     let mut out = OutSink::new(rt.clone()?);
     assert!(rt; write_line(&mut out, &[b"answer ", b"done\n"]).is_ok());
     assert!(rt; out.write(b"").is_ok());
+    assert!(rt; out.finish().is_ok());
+    assert!(rt; out.finish().is_ok());
+    Ok(())
+}
+
+#[test]
+fn bytes_are_written_in_blocks(rt: HostRuntime) -> Result<(), Fail> {
+    let all = pattern(rt.alloc(), 265_536)?;
+    let mut written = Vec::new(rt.alloc());
+    let mut held = ArrayVec::new();
+    let table = [
+        (0, 0, 0),
+        (65_535, 0, 65_535),
+        (65_536, 65_536, 0),
+        (265_536, 262_144, 3_392),
+    ];
+    let mut taken = 0;
+    for (end, wanted, left) in &table {
+        let piece = all.get(taken..*end).ok_or("past the end")?;
+        assert!(rt; gather(&mut written, &mut held, piece).is_ok());
+        assert_eq!(rt; written.len(), *wanted);
+        assert_eq!(rt; held.len(), *left);
+        taken = *end;
+    }
+    assert!(rt; hand_on(&mut written, &mut held).is_ok());
+    assert!(rt; written == all);
     Ok(())
 }

@@ -1,11 +1,12 @@
-//! The program `ucode`: it hands the words of its command line, the host's files and standard output to `run_tool`, and
-//! ends with the exit status that comes of it.
+//! The program `ucode`: it hands the words of its command line, the host's files and standard output to `run_tool`, hands
+//! on what standard output still holds, and ends with the exit status that comes of it.
 #![tactic(auto)]
 
 use std::alloc::Global;
 use std::env::{Env, FillError};
 use std::process::ExitCode;
 use std::str;
+use top_call::after_write;
 use uc_bytes::{NoMemory, Text};
 use uc_cli::{Status, run_tool};
 use uc_io::{HostFiles, OutSink};
@@ -40,7 +41,8 @@ fn main(rt: HostRuntime) -> ExitCode {
         Ok(words) => {
             let mut files = HostFiles::new(&rt);
             let mut out = OutSink::new(&rt);
-            run_tool(alloc, words.as_slice(), &mut files, &mut out)
+            let status = run_tool(alloc, words.as_slice(), &mut files, &mut out);
+            after_write(status, out.finish())
         }
         Err(NoMemory) => Status::NoMemory,
     };

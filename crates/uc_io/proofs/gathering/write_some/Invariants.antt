@@ -1,6 +1,6 @@
 -- A write that a signal interrupted wrote nothing.
 use Rattle.std.specs.Io.KnownBytes.{Keeps}
-use Rattle.uc_io.proofs.out_sink.write_some.Given as goal
+use Rattle.uc_io.proofs.gathering.write_some.Given as goal
 
 abbrev pub invariant-loop : goal.invariant-loop
 invariant-loop g l = Keeps (g.W.Write.contents l.initial.to) (g.W.Write.contents l.to)
