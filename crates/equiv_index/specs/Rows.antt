@@ -1,0 +1,25 @@
+-- The rows of an equivalence table, in their order.
+use Rattle.std.specs.Prelude.{ℕ, ◌+◌, ◌==◌, Bool, false, Option, Some, None, if◌then◌else◌, List, [], ◌∷◌, map, filter}
+use Rattle.file_entries.specs.Entry.{first_rows}
+use Rattle.equiv_index.specs.declared.row.Row.{Row}
+
+-- rows with their numbers, from a number on
+abbrev pub numbered : ℕ → List (ℕ × ℕ) → List Row
+numbered number [] = []
+numbered number (row ∷ rows) =
+    record { sig = row.0; number = number; id = row.1 } ∷ numbered (number + 1) rows
+
+-- the first row with a signature
+abbrev pub first_with : List Row → ℕ → Option Row
+first_with [] sig = None
+first_with (row ∷ rows) sig = if row.sig == sig then Some row else first_with rows sig
+
+-- there is a row, with this number
+abbrev pub is_numbered : Option Row → ℕ → Bool
+is_numbered None number = false
+is_numbered (Some row) number = row.number == number
+
+-- the signatures whose first row gives the id
+abbrev pub served_by : List (ℕ × ℕ) → ℕ → List ℕ
+served_by rows id =
+    map (λ row. row.0) (filter (λ row. row.1 == id) (first_rows rows))
