@@ -2,3 +2,5 @@ pub mod Counting
 pub mod Changes
 pub mod Small
 pub mod Revisions
+pub mod Over
+pub mod Searches

@@ -5,11 +5,13 @@
 //! `rendezvous_steps` says, in constant work and without memory.
 #![tactic(auto)]
 
+mod cores;
 mod looks;
 mod moments;
 mod outcomes;
 mod runs;
 
+pub use cores::Core;
 pub use ctl_words::Plan;
 pub use outcomes::Outcome;
 pub use rendezvous_steps::{Beat, End, Event, Item, ThreadResult, What};

@@ -7,10 +7,10 @@ ghost use Rattle.rendezvous_steps.specs.Plan.{threads_from};
 ghost use Rattle.rendezvous_steps.specs.StepTable.{write_of};
 ghost use Rattle.ctl_words.specs.Lists.{word_of};
 ghost use Rattle.ctl_words.specs.Plans.{plan_of, IsSound};
-ghost use Rattle.ctl_core.specs.Moments.{unfinished_in, owner};
+ghost use Rattle.ctl_core.specs.Moments.{unfinished_in, unfinished_from, end_in, owner};
 
 use ctl_words::{PlainWords, Plan};
-use rendezvous_steps::{Kind, Word};
+use rendezvous_steps::{End, Kind, ThreadResult, Word};
 
 pub fn has_left(words: &PlainWords, thread: u16) -> bool
     ensures { result ≡ shows_left (word_of words.now) thread }
@@ -98,6 +98,37 @@ pub fn unfinished(words: &PlainWords, plan: &Plan) -> u16
         }
     }
     count
+}
+
+/// The lowest thread that is unfinished.
+#[tactic(auto, using(crate::proofs::Searches::unfinished_search))]
+pub fn first_unfinished(words: &PlainWords, plan: &Plan) -> Option<u16>
+    ensures { result ≡ unfinished_from (plan_of plan.now) (word_of words.now) 0 }
+{
+    for thread in 0..plan.threads {
+        if !is_finished(words, plan, thread) {
+            return Some(thread);
+        }
+    }
+    None
+}
+
+/// How the thread came out of the rendezvous.
+pub fn end(words: &PlainWords, plan: &Plan, thread: u16) -> End
+    ensures { result ≡ end_in (plan_of plan.now) (word_of words.now) thread }
+{
+    let mode = words.get(Word::Mode(thread));
+    if has_halted(words, thread) {
+        End::Halted
+    } else if mode >= 8 {
+        End::Left(ThreadResult::from_number(mode - 8))
+    } else {
+        match plan.kind_of(thread) {
+            Kind::Offline if words.get(Word::Nmi(thread)) == 3 => End::Withdrawn,
+            Kind::Online | Kind::Offline => End::Unfinished,
+            Kind::Absent => End::Absent,
+        }
+    }
 }
 
 /// The number of unfinished threads where one of them was finished or not, and now is or is not.

@@ -1,0 +1,87 @@
+//! A rendezvous that is played event by event.
+
+ghost use Rattle.std.specs.Prelude.{◌≡◌, ◌+◌, ◌*◌, ◌≤◌};
+ghost use Rattle.rendezvous_runs.specs.Rank.{all_ranks, is_counted};
+ghost use Rattle.ctl_words.specs.Plans.{plan_of, IsSound};
+ghost use Rattle.ctl_core.specs.Moments.{running_of, Fits};
+
+use crate::moments::Moment;
+use ctl_words::Plan;
+use rendezvous_steps::{Event, Item, What};
+use std::alloc::Global;
+use uc_bytes::NoMemory;
+
+/// A rendezvous with a plan, at one moment.
+#[derive(Drop)]
+pub struct Core<'a> {
+    plan: &'a Plan,
+    moment: Moment,
+    spent: u32,
+    ghost sound: { IsSound plan.now },
+    ghost fits: { Fits (plan_of plan.now) moment },
+    ghost few: { spent + all_ranks (plan_of plan.now) (running_of moment).locals ≤ 20 * plan.now.threads + 8 },
+}
+
+impl<'a> Core<'a> {
+    ghost use Rattle.std.specs.Prelude.{IfOk, ◌<◌, if◌then◌else◌};
+    ghost use Rattle.rendezvous_steps.specs.Events.{happens, opening_running};
+    ghost use Rattle.rendezvous_model.specs.RoundStep.{thread_of};
+    ghost use Rattle.rendezvous_runs.specs.Play.{is_over};
+    ghost use Rattle.ctl_core.specs.Cores.{plan_in, moment_in, spent_in};
+
+    /// The moment in which a rendezvous with this plan begins. It answers want of memory and nothing else.
+    pub fn new(alloc: Global, plan: &'a Plan) -> Result<Core<'a>, NoMemory>
+        requires { IsSound plan.now }
+        ensures plan { IfOk result (λ core. plan_in core ≡ plan_of plan.now) }
+        ensures opening { IfOk result (λ core. moment_in core ≡ opening_running (plan_of plan.now)) }
+        ensures spent { IfOk result (λ core. spent_in core ≡ 0) }
+    {
+        let moment = Moment::new(alloc, plan)?;
+        Ok(Core {
+            plan,
+            moment,
+            spent: 0,
+        })
+    }
+
+    /// Does one event, as the definition says. It takes no memory.
+    pub fn event(&mut self, event: Event) -> Item
+        requires { thread_of event < (plan_in self.old).threads }
+        ensures thread { result.thread ≡ thread_of event }
+        ensures item { result.what ≡ (happens (plan_in self.old) event (moment_in self.old)).1 }
+        ensures moment { moment_in self.new ≡ (happens (plan_in self.old) event (moment_in self.old)).0 }
+        ensures plan { plan_in self.new ≡ plan_in self.old }
+        ensures spent { spent_in self.new ≡ spent_in self.old + (if is_counted result.what then 1 else 0) }
+    {
+        let item = self.moment.event(self.plan, event);
+        if is_counted(item.what) {
+            self.spent += 1;
+        }
+        item
+    }
+
+    /// Whether no thread is unfinished.
+    pub fn is_over(&self) -> bool
+        ensures { result ≡ is_over (plan_in self.now) (moment_in self.now) }
+    {
+        self.moment.unfinished() == 0
+    }
+
+    /// How many items so far were none of Poll, Idle, Latched and Ordinary: at most 20 for each thread and 8 more.
+    pub fn spent(&self) -> u32
+        ensures count { result ≡ spent_in self.now }
+        ensures few { result ≤ 20 * (plan_in self.now).threads + 8 }
+    {
+        self.spent
+    }
+}
+
+/// Whether an item is none of Poll, Idle, Latched and Ordinary.
+fn is_counted(what: What) -> bool
+    ensures { result ≡ is_counted what }
+{
+    !matches!(
+        what,
+        What::Poll | What::Idle | What::Latched | What::Ordinary
+    )
+}
