@@ -4,3 +4,4 @@ pub mod Small
 pub mod Revisions
 pub mod Over
 pub mod Searches
+pub mod Shown

@@ -3,8 +3,8 @@ use Rattle.std.proofs.Common.{◌≡◌, ℕ, suc, ◌+◌, ◌-◌, ◌<◌, �
 use Rattle.std.specs.List.{find, range_with_len}
 use Rattle.rendezvous_steps.specs.declared.operations.Word.{Word}
 use Rattle.rendezvous_steps.specs.Plan.{Plan}
-use Rattle.rendezvous_steps.specs.Events.{shows_finished}
-use Rattle.ctl_core.specs.Moments.{unfinished_from}
+use Rattle.rendezvous_steps.specs.Events.{Running, shows_finished}
+use Rattle.ctl_core.specs.Moments.{unfinished_from, is_ready, ready_from}
 
 find_skip : (p : ℕ → Bool) (k n m : ℕ) → n ≡ suc m → p k ≡ false → find p (range_with_len k n) ≡ find p (range_with_len (k + 1) m)
 find_skip p k n m e fails = rw (e, fails) refl
@@ -28,5 +28,19 @@ unfinished_from-here plan words k below unfinished =
 pub unfinished_from-end : (plan : Plan) (words : Word → ℕ) (k : ℕ) → plan.threads ≤ k → unfinished_from plan words k ≡ None
 unfolding unfinished_from
 unfinished_from-end plan words k past = find_end _ k (plan.threads - k) (omega arith)
+
+pub ready_from-skip : (plan : Plan) (moment : Running) (k : ℕ) → k < plan.threads → is_ready plan moment k ≡ false → ready_from plan moment k ≡ ready_from plan moment (k + 1)
+unfolding ready_from
+ready_from-skip plan moment k below fails = find_skip _ k (plan.threads - k) (plan.threads - (k + 1)) (omega arith) fails
+
+pub ready_from-here : (plan : Plan) (moment : Running) (k : ℕ) → k < plan.threads → is_ready plan moment k ≡ true → ready_from plan moment k ≡ Some k
+unfolding ready_from
+ready_from-here plan moment k below passes = find_here _ k (plan.threads - k) (plan.threads - (k + 1)) (omega arith) passes
+
+pub ready_from-end : (plan : Plan) (moment : Running) (k : ℕ) → plan.threads ≤ k → ready_from plan moment k ≡ None
+unfolding ready_from
+ready_from-end plan moment k past = find_end _ k (plan.threads - k) (omega arith)
+
+pub ruleset ready_search = (ready_from-skip, ready_from-here, ready_from-end)
 
 pub ruleset unfinished_search = (unfinished_from-skip, unfinished_from-here, unfinished_from-end)

@@ -1,15 +1,13 @@
 -- What a core is seen as: its plan, the moment that it stands at, and how many items so far count.
-use Rattle.std.specs.Prelude.{ℕ, Bool, true, false, not, ◌&&◌, Option}
+use Rattle.std.specs.Prelude.{ℕ, not, ◌&&◌, Option}
 use Rattle.std.specs.List.{find}
 use Rattle.rendezvous_steps.specs.declared.steps.How.TheVariants.{Step}
-use Rattle.rendezvous_steps.specs.declared.items.What.{What}
-use Rattle.rendezvous_steps.specs.declared.items.What.TheVariants.{Poll}
 use Rattle.rendezvous_steps.specs.Plan.{Plan, threads_from}
 use Rattle.rendezvous_steps.specs.Events.{Running, steps}
 use Rattle.rendezvous_model.specs.Round.{State, is_unfinished}
 use Rattle.rendezvous_rule.specs.Shown.{shown_by}
 use Rattle.ctl_words.specs.Plans.{plan_of}
-use Rattle.ctl_core.specs.Moments.{running_of}
+use Rattle.ctl_core.specs.Moments.{running_of, is_poll}
 use Rattle.ctl_core.specs.declared.cores.Core.{Core}
 
 abbrev pub plan_in : Core → Plan
@@ -29,10 +27,6 @@ spent_in core = core.spent
 -- the lowest thread that is unfinished
 abbrev pub lowest_unfinished : Plan → State → Option ℕ
 lowest_unfinished plan state = find (λ t. is_unfinished (state.place t)) (threads_from plan 0)
-
-abbrev pub is_poll : What → Bool
-is_poll Poll = true
-is_poll item = false
 
 -- the lowest unfinished thread whose next step is no Poll
 abbrev pub lowest_ready : Plan → Running → Option ℕ

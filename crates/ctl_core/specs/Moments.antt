@@ -1,14 +1,17 @@
 -- A moment of a rendezvous, seen as its lists, and the moment of the definition that they stand for.
-use Rattle.std.specs.Prelude.{◌≡◌, ℕ, ◌<◌, ◌^◌, Bool, false, not, List, length, slice_get, unwrap_or, count_by, Option, Some, None}
+use Rattle.std.specs.Prelude.{◌≡◌, ℕ, ◌<◌, ◌^◌, Bool, true, false, not, ◌&&◌, List, length, slice_get, unwrap_or, count_by, Option, Some, None}
 use Rattle.std.specs.List.{find}
 use Rattle.rendezvous_steps.specs.declared.ends.End.{End}
 use Rattle.rendezvous_steps.specs.declared.steps.Phase.TheVariants.{Nothing}
 use Rattle.rendezvous_steps.specs.declared.steps.Local.{Local}
 use Rattle.rendezvous_steps.specs.declared.operations.Word.{Word}
 use Rattle.rendezvous_steps.specs.declared.operations.Word.TheVariants.{Mode, Ctrl, Nmi, Rev}
+use Rattle.rendezvous_steps.specs.declared.steps.How.TheVariants.{Step}
+use Rattle.rendezvous_steps.specs.declared.items.What.{What}
+use Rattle.rendezvous_steps.specs.declared.items.What.TheVariants.{Poll}
 use Rattle.rendezvous_steps.specs.Plan.{Plan, threads_from}
 use Rattle.rendezvous_steps.specs.StepTable.{write_of}
-use Rattle.rendezvous_steps.specs.Events.{Running, shows_finished}
+use Rattle.rendezvous_steps.specs.Events.{Running, shows_finished, steps}
 use Rattle.rendezvous_model.specs.Outcome.{end_of}
 use Rattle.rendezvous_rule.specs.Shown.{place_of}
 use Rattle.ctl_words.specs.Lists.{Lists, has_word, word_of}
@@ -66,3 +69,15 @@ pub record Fits (plan : Plan) (s : State) : Type 0 where
   pub writes : (g : ℕ) → write_of plan g < 2 ^ 32
   pub revisions : (g : ℕ) → word_of s.words (Rev g) < 2 ^ 32
   pub counted : s.unfinished ≡ unfinished_in plan (word_of s.words)
+
+abbrev pub is_poll : What → Bool
+is_poll Poll = true
+is_poll item = false
+
+-- the thread is unfinished and its next step is no Poll
+abbrev pub is_ready : Plan → Running → ℕ → Bool
+is_ready plan moment t = not (shows_finished plan moment.words t) && not (is_poll (steps plan t Step moment).1)
+
+-- the lowest such thread from one on
+unfoldable pub ready_from : Plan → Running → ℕ → Option ℕ
+ready_from plan moment k = find (is_ready plan moment) (threads_from plan k)

@@ -6,6 +6,7 @@ ghost use Rattle.ctl_words.specs.Plans.{plan_of, IsSound};
 ghost use Rattle.ctl_core.specs.Moments.{running_of, Fits};
 
 use crate::moments::Moment;
+use crate::outcomes::Outcome;
 use ctl_words::Plan;
 use rendezvous_steps::{Event, Item, What};
 use std::alloc::Global;
@@ -27,7 +28,9 @@ impl<'a> Core<'a> {
     ghost use Rattle.rendezvous_steps.specs.Events.{happens, opening_running};
     ghost use Rattle.rendezvous_model.specs.RoundStep.{thread_of};
     ghost use Rattle.rendezvous_runs.specs.Play.{is_over};
-    ghost use Rattle.ctl_core.specs.Cores.{plan_in, moment_in, spent_in};
+    ghost use Rattle.rendezvous_model.specs.Outcome.{OutcomeShows};
+    ghost use Rattle.ctl_core.specs.Outcomes.{outcome_of};
+    ghost use Rattle.ctl_core.specs.Cores.{plan_in, moment_in, state_in, spent_in, lowest_unfinished, lowest_ready};
 
     /// The moment in which a rendezvous with this plan begins. It answers want of memory and nothing else.
     pub fn new(alloc: Global, plan: &'a Plan) -> Result<Core<'a>, NoMemory>
@@ -65,6 +68,31 @@ impl<'a> Core<'a> {
         ensures { result ≡ is_over (plan_in self.now) (moment_in self.now) }
     {
         self.moment.unfinished() == 0
+    }
+
+    /// The lowest thread that is unfinished. It takes no memory.
+    pub fn finished(&self) -> Option<u16>
+        ensures { result ≡ lowest_unfinished (plan_in self.now) (state_in self.now) }
+    {
+        self.moment.first_unfinished(self.plan)
+    }
+
+    /// The lowest unfinished thread whose next step is no Poll. It takes no memory.
+    pub fn ready(&self) -> Option<u16>
+        ensures { result ≡ lowest_ready (plan_in self.now) (moment_in self.now) }
+    {
+        self.moment.first_ready(self.plan)
+    }
+
+    /// What would be left of the rendezvous if it ended here. It takes no memory.
+    pub fn outcome(&self) -> Outcome
+        ensures { OutcomeShows (plan_in self.now) (outcome_of result) (state_in self.now) }
+    {
+        Outcome {
+            decide: self.moment.decision(),
+            ends: self.moment.ends(self.plan),
+            revs: self.moment.revisions(self.plan),
+        }
     }
 
     /// How many items so far were none of Poll, Idle, Latched and Ordinary: at most 20 for each thread and 8 more.

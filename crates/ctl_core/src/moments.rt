@@ -1,7 +1,8 @@
 //! The state between two events, and one event.
 
 ghost use Rattle.std.specs.Prelude.{◌≡◌, ◌<◌, ◌||◌, ◌^◌, ℕ, false, map, length, replicate, slice_set, IfOk, IsTrue, Some, None};
-ghost use Rattle.rendezvous_steps.specs.declared.operations.Word.TheVariants.{Rev};
+ghost use Rattle.rendezvous_steps.specs.declared.operations.Word.TheVariants.{Rev, Decide as DecideWord};
+ghost use Rattle.rendezvous_steps.specs.declared.steps.How.TheVariants.{Step as StepHow};
 ghost use Rattle.rendezvous_steps.specs.declared.steps.Kind.TheVariants.{Online, Offline};
 ghost use Rattle.rendezvous_steps.specs.Plan.{threads_from};
 ghost use Rattle.rendezvous_steps.specs.Events.{happens, performs, steps, runs, runs_by, nmi_comes, nmi_by, nmi_offline, runs_ordinary, latches, opening_running, left_with_latch, is_outside, shows_left, shows_halted, shows_withdrawn, shows_held};
@@ -10,12 +11,14 @@ ghost use Rattle.rendezvous_steps.specs.Words.{touched, words_after};
 ghost use Rattle.rendezvous_model.specs.RoundStep.{thread_of};
 ghost use Rattle.ctl_words.specs.Lists.{has_word, word_of};
 ghost use Rattle.ctl_words.specs.Plans.{plan_of, IsSound};
-ghost use Rattle.ctl_core.specs.Moments.{running_of, Fits, owner};
+ghost use Rattle.std.specs.List.{range_with_len};
+ghost use Rattle.ctl_core.specs.Moments.{running_of, Fits, owner, unfinished_from, is_poll, is_ready, ready_from, end_in};
 
 use crate::looks;
+use arrayvec::ArrayVec;
 use ctl_thread::{after, next, opening};
 use ctl_words::{PlainWords, Plan, Words};
-use rendezvous_steps::{Event, How, Item, Kind, Local, Op, Phase, What};
+use rendezvous_steps::{End, Event, How, Item, Kind, Local, Op, Phase, What, Word};
 use std::alloc::Global;
 use std::marker::Model;
 use uc_bytes::NoMemory;
@@ -69,6 +72,93 @@ impl Moment {
         ensures { result ≡ self.now.unfinished }
     {
         self.unfinished
+    }
+
+    /// The lowest thread that is unfinished.
+    pub fn first_unfinished(&self, plan: &Plan) -> Option<u16>
+        ensures { result ≡ unfinished_from (plan_of plan.now) (running_of self.now).words 0 }
+    {
+        looks::first_unfinished(&self.words, plan)
+    }
+
+    /// The lowest unfinished thread whose next step is no Poll.
+    #[tactic(auto, using(crate::proofs::Searches::ready_search))]
+    pub fn first_ready(&self, plan: &Plan) -> Option<u16>
+        requires sound { IsSound plan.now }
+        requires fits { Fits (plan_of plan.now) self.now }
+        ensures { result ≡ ready_from (plan_of plan.now) (running_of self.now) 0 }
+    {
+        for thread in 0..plan.threads {
+            if self.is_ready(plan, thread) {
+                return Some(thread);
+            }
+        }
+        None
+    }
+
+    /// Whether the thread is unfinished and its next step is no Poll.
+    fn is_ready(&self, plan: &Plan, thread: u16) -> bool
+        requires sound { IsSound plan.now }
+        requires fits { Fits (plan_of plan.now) self.now }
+        requires in_range { thread < plan.now.threads }
+        ensures { result ≡ is_ready (plan_of plan.now) (running_of self.now) thread }
+    {
+        !looks::is_finished(&self.words, plan, thread) && !self.polls(plan, thread)
+    }
+
+    /// Whether the thread's next step is a Poll.
+    fn polls(&self, plan: &Plan, thread: u16) -> bool
+        requires sound { IsSound plan.now }
+        requires in_range { thread < plan.now.threads }
+        ensures { result ≡ is_poll (steps (plan_of plan.now) thread StepHow (running_of self.now)).1 }
+    {
+        let local = self.local(thread);
+        match next(plan, thread, &local, How::Step) {
+            Some(op) => {
+                let found = self.words.get(op.word());
+                let (_, what) = after(plan, thread, &local, How::Step, found);
+                matches!(what, What::Poll)
+            }
+            None => false,
+        }
+    }
+
+    /// What was decided: 0 while the threads gather.
+    pub fn decision(&self) -> u64
+        ensures { result ≡ (running_of self.now).words DecideWord }
+    {
+        self.words.get(Word::Decide)
+    }
+
+    /// How each thread came out, by its number.
+    pub fn ends(&self, plan: &Plan) -> ArrayVec<End, 256>
+        requires { IsSound plan.now }
+        ensures { result.items ≡ map (end_in (plan_of plan.now) (running_of self.now).words) (threads_from (plan_of plan.now) 0) }
+    {
+        let mut ends = ArrayVec::new();
+        for thread in 0..plan.threads {
+            ends.push(looks::end(&self.words, plan, thread));
+        }
+        ends
+    }
+
+    /// The running revision of each group.
+    pub fn revisions(&self, plan: &Plan) -> ArrayVec<u32, 256>
+        requires fits { Fits (plan_of plan.now) self.now }
+        ensures { result.items ≡ map (λ g. (running_of self.now).words (Rev g)) (range_with_len 0 (plan_of plan.now).groups) }
+    {
+        let mut revisions = ArrayVec::new();
+        for group in 0..plan.groups() {
+            revisions.push(self.revision(group));
+        }
+        revisions
+    }
+
+    fn revision(&self, group: u16) -> u32
+        requires { (running_of self.now).words (Rev group) < 2 ^ 32 }
+        ensures { result ≡ (running_of self.now).words (Rev group) }
+    {
+        self.words.get(Word::Rev(group)) as u32
     }
 
     /// One event, by the definition `happens`.

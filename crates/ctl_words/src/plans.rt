@@ -1,6 +1,6 @@
 //! The plan of a load.
 
-ghost use Rattle.std.specs.Prelude.{◌≡◌, ℕ, ◌+◌, ◌*◌, ◌<◌, ◌↔◌, length, IsTrue};
+ghost use Rattle.std.specs.Prelude.{◌≡◌, ℕ, ◌+◌, ◌*◌, ◌<◌, ◌≤◌, ◌↔◌, length, IsTrue};
 ghost use Rattle.rendezvous_steps.specs.declared.steps.Kind.TheVariants.{Online};
 ghost use Rattle.rendezvous_steps.specs.Plan.{online_count, offline_count};
 ghost use Rattle.rendezvous_steps.specs.declared.operations.Word.{Word as WordName};
@@ -85,7 +85,8 @@ impl Plan {
 
     /// How many groups there are.
     pub fn groups(&self) -> u16
-        ensures { result ≡ (plan_of self.now).groups }
+        ensures value { result ≡ (plan_of self.now).groups }
+        ensures few { result ≤ 256 }
     {
         self.primary.len() as u16
     }

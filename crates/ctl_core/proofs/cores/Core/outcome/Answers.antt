@@ -1,0 +1,11 @@
+use Rattle.std.proofs.Common.{◌∙◌}
+use Rattle.ctl_core.proofs.Shown.{decide_shown}
+use Rattle.ctl_core.proofs.cores.Core.outcome.Goals as goal
+
+pub returns : goal.returns
+returns c =
+    record {
+      decide = c.decision.ensures ∙ decide_shown _;
+      ends = c.ends.ensures;
+      revs = c.revisions.ensures;
+    }
