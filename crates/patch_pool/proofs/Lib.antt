@@ -3,3 +3,4 @@ pub mod Joining
 pub mod Giving
 pub mod Lowest
 pub mod Taking
+pub mod Memory

@@ -2,6 +2,8 @@
 //! blocks that is long enough, and known by its first block from then on.
 #![tactic(auto)]
 
+mod region;
 mod runs;
 
+pub use region::Region;
 pub use runs::{Run, Runs};

@@ -1,0 +1,56 @@
+use Rattle.std.proofs.Common.{◌≡◌, ℕ, ◌+◌, ◌*◌, ◌<◌, ◌≤◌, List, length, take, drop, ◌++◌, vec_len, refl, sym, ap, ◌∙◌, arith}
+use Rattle.std.specs.List.{slice_set}
+use Rattle.std.proofs.lemmas.List.Sums.{count_by-le-length}
+use Rattle.std.proofs.Math.Seq.{take-append_seam}
+use Rattle.patch_pool.specs.Bytes.{begins, patches_in, copied_over}
+use Rattle.patch_pool.proofs.Memory.{CanPut, patches_put, none_before, one_more, inside_set}
+use Rattle.patch_pool.proofs.region.Region.put.Goals as goal
+
+whole_front : (bytes rest : List ℕ) (n : ℕ) → n ≡ length bytes → take n (bytes ++ rest) ≡ bytes
+whole_front bytes rest n e = ap (λ (k : ℕ). take k (bytes ++ rest)) e ∙ take-append_seam bytes rest
+
+pub overflow_add-self : goal.overflow_add-self
+overflow_add-self c =
+    omega (arith, c.args.self.now.counted, count_by-le-length begins c.args.self.now.lengths.items, c.args.self.now.few, c.args.self.now.lengths.ok.0)
+
+pub invariant_of-self-clause-inside : goal.invariant_of-self-clause-inside
+invariant_of-self-clause-inside c =
+    let bytes = c.args.self.now.bytes.items in
+    let lengths = c.args.self.now.lengths.items in
+    let whole = whole_front c.copy_over.new.bytes (drop (length c.copy_over.new.bytes) bytes) c.args.self.now.bytes.len (omega (arith, c.args.self.now.bytes.ok.0, c.copy_over.auto.bytes, c.deref_mut.ensures.len)) in
+    inside_set bytes (take c.args.self.now.bytes.len (c.copy_over.new.bytes ++ drop (length c.copy_over.new.bytes) bytes)) lengths c.args.first (length c.args.bytes.now) c.args.self.now.inside
+    (ap length whole ∙ omega (arith, c.copy_over.auto.bytes, c.deref_mut.ensures.len, c.args.self.now.bytes.ok.0))
+    (omega (arith, c.requires.inside, c.args.self.now.whole, c.args.self.now.bytes.ok.0))
+    (omega (arith, c.requires.inside, c.requires.some, c.args.self.now.lengths.ok.0))
+
+pub invariant_of-self-clause-counted : goal.invariant_of-self-clause-counted
+invariant_of-self-clause-counted c =
+    let bytes = c.args.self.now.bytes.items in
+    let lengths = c.args.self.now.lengths.items in
+    let there : c.args.first < length lengths = omega (arith, c.requires.inside, c.requires.some, c.args.self.now.lengths.ok.0) in
+    let none = none_before bytes lengths c.args.first c.args.bytes.now
+    (record {
+      inside = c.args.self.now.inside;
+      there = there;
+      some = c.requires.some;
+      fits = omega (arith, c.requires.inside, c.args.self.now.whole, c.args.self.now.bytes.ok.0);
+      free = c.requires.free;
+    }) in
+    ap (λ (n : ℕ). n + 1) c.args.self.now.counted ∙ sym (one_more lengths c.args.first (length c.args.bytes.now) there none c.requires.some)
+
+pub returns-clause-put : goal.returns-clause-put
+returns-clause-put c =
+    let bytes = c.args.self.now.bytes.items in
+    let lengths = c.args.self.now.lengths.items in
+    let first = c.args.first in
+    let new = c.args.bytes.now in
+    let written : c.copy_over.new.bytes ≡ copied_over bytes (1024 * first) new = c.copy_over.ensures ∙ ap (λ (bs : List ℕ). copied_over bs (first * 1024) new) c.deref_mut.ensures.value ∙ ap (λ (at : ℕ). copied_over bytes at new) (omega arith) in
+    let whole = whole_front c.copy_over.new.bytes (drop (length c.copy_over.new.bytes) bytes) c.args.self.now.bytes.len (omega (arith, c.args.self.now.bytes.ok.0, c.copy_over.auto.bytes, c.deref_mut.ensures.len)) in
+    ap (λ (bs : List ℕ). patches_in bs (slice_set lengths first (length new))) (whole ∙ written) ∙ patches_put bytes lengths first new
+    (record {
+      inside = c.args.self.now.inside;
+      there = omega (arith, c.requires.inside, c.requires.some, c.args.self.now.lengths.ok.0);
+      some = c.requires.some;
+      fits = omega (arith, c.requires.inside, c.args.self.now.whole, c.args.self.now.bytes.ok.0);
+      free = c.requires.free;
+    })
