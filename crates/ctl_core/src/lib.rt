@@ -6,6 +6,7 @@
 #![tactic(auto)]
 
 mod cores;
+mod item_lines;
 mod looks;
 mod moments;
 mod outcomes;
