@@ -1,7 +1,9 @@
 pub mod Facets
-pub mod Kinds
 pub mod Awaited
 pub mod Shown
+pub mod View
+pub mod Seen
+pub mod Knows
 pub mod Rule
 pub mod Ran
 pub mod Runs
