@@ -1,7 +1,7 @@
 -- Counts over all threads, and over those other than 0.
 use Rattle.std.proofs.Common.{◌≡◌, ℕ, suc, ◌+◌, ◌-◌, ◌<◌, Bool, cond, count_by, ap, ◌∙◌, arith}
 use Rattle.rendezvous_steps.specs.Plan.{Plan, threads_from}
-use Rattle.round_laws.proofs.Count.{count, count_step}
+use Rattle.rule_laws.proofs.Count.{count, count_step}
 
 -- thread 0, and then the others
 pub count_zero_first :

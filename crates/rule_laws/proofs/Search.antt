@@ -6,7 +6,7 @@ use Rattle.rendezvous_steps.specs.declared.steps.Kind.TheVariants.{Online, Offli
 use Rattle.rendezvous_steps.specs.Plan.{Plan, is_offline, offline_from}
 use Rattle.rendezvous_steps.specs.Padded.{Padded}
 use Rattle.std.proofs.lemmas.Bool.{cases_lt}
-use Rattle.round_laws.proofs.Count.{same_or_not}
+use Rattle.rule_laws.proofs.Count.{same_or_not}
 
 -- the first that passes: it passes, and none before it does
 pub record First (p : ℕ → Bool) (a b k : ℕ) : Type 0 where

@@ -1,0 +1,2 @@
+//! Laws of the rule between steps.
+#![tactic(auto)]
