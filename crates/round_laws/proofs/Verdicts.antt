@@ -6,8 +6,8 @@ use Rattle.rendezvous_steps.specs.Plan.{Plan}
 use Rattle.rendezvous_model.specs.Outcome.{Outcome}
 use Rattle.rendezvous_model.specs.Verdict.{Done, Panicked, Unfinished, OfflineSilent, TimedOut, Failed, Incomplete, halted_at, unfinished_at, refused_at, some_updated, IsLowest, NoThread, AllEnded, LoadVerdict, lowest, dropped, refused, verdict_from, load_verdict}
 use Rattle.round_laws.specs.Laws.{VerdictHolds, VerdictIsOne}
-use Rattle.round_laws.proofs.Count.{same_or_not}
-use Rattle.round_laws.proofs.Search.{found, found_none}
+use Rattle.rule_laws.proofs.Count.{same_or_not}
+use Rattle.rule_laws.proofs.Search.{found, found_none}
 
 is_lowest : (plan : Plan) (test : ℕ → Bool) (t : ℕ) → lowest plan test ≡ Some t → IsLowest plan test t
 unfolding lowest

@@ -8,8 +8,4 @@
 
 mod laws;
 
-pub use laws::{
-    drop_keeps_the_rule, free_keeps_the_rule, go_keeps_the_rule, kick_keeps_the_rule,
-    opening_keeps_the_rule, the_rule_is_safe, the_rule_shows_one_state,
-    the_verdict_is_the_first_that_holds,
-};
+pub use laws::{kick_keeps_the_rule, the_verdict_is_the_first_that_holds};

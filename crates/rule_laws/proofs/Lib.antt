@@ -6,3 +6,5 @@ pub mod Tables
 pub mod Later
 pub mod Assemble
 pub mod Step
+pub mod Loops
+pub mod Facts

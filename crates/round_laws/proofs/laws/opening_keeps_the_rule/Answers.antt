@@ -1,6 +1,0 @@
-use Rattle.round_laws.proofs.Opening.{opening_is_ruled}
-use Rattle.round_laws.proofs.Seen.{opening_is_shown}
-use Rattle.round_laws.proofs.laws.opening_keeps_the_rule.Goals as goal
-
-pub returns : goal.returns
-returns c = record { ruled = opening_is_ruled; shown = opening_is_shown }

@@ -1,5 +1,0 @@
-use Rattle.round_laws.proofs.Safety.{ruled_is_safe}
-use Rattle.round_laws.proofs.laws.the_rule_is_safe.Goals as goal
-
-pub returns : goal.returns
-returns c = ruled_is_safe

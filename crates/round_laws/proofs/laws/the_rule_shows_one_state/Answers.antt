@@ -1,5 +1,0 @@
-use Rattle.round_laws.proofs.Seen.{ruled_shows, shows_one}
-use Rattle.round_laws.proofs.laws.the_rule_shows_one_state.Goals as goal
-
-pub returns : goal.returns
-returns c = record { shows = ruled_shows; one = shows_one }
