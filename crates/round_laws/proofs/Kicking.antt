@@ -85,7 +85,7 @@ kick_kept plan moment h first stage k polls mine sound padded rule own here offl
       sees = λ latched.
           ap (λ x. seen plan x stage latched)
           (only_kicks v 0 (view plan 0 first (kick_at local next)) set
-          (kicks_view plan first k polls mine next ∙ ap (λ w. record w { kicks = set }) (sym (view_is plan moment.locals first 0 local here))))
+          (kicks_view plan first k polls mine next ∙ ap (λ (w : View). record w { kicks = set }) (sym (view_is plan moment.locals first 0 local here))))
           ∙ sees_kicks plan v stage latched set
           ∙ ap (λ z. record (s latched) { kicked = z }) now;
       says =
