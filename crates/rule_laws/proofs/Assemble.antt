@@ -45,7 +45,7 @@ settled_kicked plan locals first u e =
 -- Where a thread is.
 
 -- places of a kind, with a kick where there is one
-abbrev fits : Kind → Place → Bool → Bool
+abbrev pub fits : Kind → Place → Bool → Bool
 fits Online Out kicked = true
 fits Online In kicked = true
 fits Online (Left x) kicked = true
@@ -140,19 +140,19 @@ offline_fits phase.Withdrawn t mine s false knows kicks same = refl
 offline_fits p t mine s settled knows kicks same = absurd knows
 
 -- of a thread that is not Offline thread 0 settles nothing
-unsettled :
+pub unsettled :
     (plan : Plan) (locals : ℕ → Local) (first : Bool) (u : ℕ) →
     is_offline (plan.kind u) ≡ false → (views plan first locals).settles 0 u ≡ false
 unfolding views
 unsettled plan locals first u e = rw e refl
 
-unkicked :
+pub unkicked :
     (plan : Plan) (locals : ℕ → Local) (first : Bool) (u : ℕ) →
     is_offline (plan.kind u) ≡ false → (views plan first locals).kicks 0 u ≡ false
 unfolding views
 unkicked plan locals first u e = rw e refl
 
-fits_by :
+pub fits_by :
     (plan : Plan) (words : Families) (locals : ℕ → Local) (first : Bool) (stage : Stage) (u : ℕ) (kind : Kind) →
     RuleBy plan words locals first stage →
     plan.kind u ≡ kind →
@@ -210,11 +210,11 @@ freed_back Absent p z group = told_freed p group
 
 -- Who has arrived.
 
-either_way : (b : Bool) → (if b then true else true) ≡ true
+pub either_way : (b : Bool) → (if b then true else true) ≡ true
 either_way true = refl
 either_way false = refl
 
-online_arrived :
+pub online_arrived :
     (p : Phase) (plan : Plan) (t at mine : ℕ) (s : State) →
     OnlineKnows p plan t at mine s → past_arriving p ≡ arrived_in p mine true
 unfolding past_arriving
@@ -229,7 +229,7 @@ online_arrived phase.Leaving plan t at mine s knows = sym (either_way (is_timeou
 online_arrived phase.Left plan t at mine s knows = sym (either_way (is_timeout mine))
 online_arrived p plan t at mine s knows = refl
 
-offline_arrived :
+pub offline_arrived :
     (p : Phase) (t mine : ℕ) (s : State) →
     OfflineKnows p t mine s → has_counted p ≡ arrived_in p mine true
 unfolding has_counted
@@ -243,7 +243,7 @@ offline_arrived phase.Withdrawn t mine s knows = refl
 offline_arrived p t mine s knows = absurd knows
 
 -- a thread other than 0 has arrived by its phase
-others_arrived :
+pub others_arrived :
     (plan : Plan) (locals : ℕ → Local) (first : Bool) (u : ℕ) →
     u ≢ 0 → (views plan first locals).arrived u ≡ arrived_in (locals u).phase (locals u).mine true
 unfolding views
@@ -324,7 +324,7 @@ arrived_by plan words locals first z stage u KindAbsent sound rule e same =
 
 -- The stage, and the decider.
 
-stage_back : (stage : Stage) → stage_of (decide_of stage) ≡ stage
+pub stage_back : (stage : Stage) → stage_of (decide_of stage) ≡ stage
 stage_back Gathering = refl
 stage_back Going = refl
 stage_back DroppedByKick = refl
@@ -334,7 +334,7 @@ stage_back (DroppedBy t) =
     let c : (3 + t == 2) ≡ false = grind (arith, nat_tests) in
     let d : 3 + t - 3 ≡ t = omega arith in rw (a, b, c, d) refl
 
-undecided : (stage : Stage) → (decide_of stage == 0) ≡ is_gathering stage
+pub undecided : (stage : Stage) → (decide_of stage == 0) ≡ is_gathering stage
 undecided Gathering = refl
 undecided Going = refl
 undecided DroppedByKick = refl
@@ -355,7 +355,7 @@ decider_back plan locals first stage u =
 
 -- How far the write of a group has come.
 
-number_back : (x : ThreadResult) → result_of (number_of x) ≡ x
+pub number_back : (x : ThreadResult) → result_of (number_of x) ≡ x
 number_back results.Updated = refl
 number_back results.Okay = refl
 number_back results.Current = refl
@@ -424,7 +424,7 @@ group_by w kind writes place l own online begun there =
     ∙ group_back l.phase l.at l.polls l.mine
     ∙ sym own
 
-waits_either : (b : Bool) → (if b then Waiting else Waiting) ≡ Waiting
+pub waits_either : (b : Bool) → (if b then Waiting else Waiting) ≡ Waiting
 waits_either true = refl
 waits_either false = refl
 
@@ -456,6 +456,27 @@ led plan g sound padded =
       | inr past ↦ inr (padded.no_primary g past)
     ]
 
+-- what others see of a group's primary
+pub lead_write :
+    (plan : Plan) (locals : ℕ → Local) (first : Bool) (g : ℕ) →
+    plan.group (plan.primary g) ≡ g →
+    (let l = locals (plan.primary g) in (views plan first locals).write (plan.primary g) ≡ write_in l.phase l.mine)
+unfolding views
+lead_write plan locals first g group =
+    let p = plan.primary g in
+    let l = locals p in
+    ap (λ b. if b then write_in l.phase l.mine else Waiting) (same_numbers p (plan.primary (plan.group p)) (ap plan.primary (sym group)))
+
+pub absent_waits :
+    (plan : Plan) (words : Families) (locals : ℕ → Local) (first : Bool) (stage : Stage) (p : ℕ) →
+    RuleBy plan words locals first stage → plan.kind p ≡ KindAbsent → (views plan first locals).write p ≡ Waiting
+unfolding views
+absent_waits plan words locals first stage p rule absent =
+    let s = seen plan (views plan first locals) stage nobody in
+    let l = locals p in
+    let nothing : l.phase ≡ phase.Nothing = subst (λ kind. Knows kind plan p l s) absent (rule.knows p) in
+    ap (λ x. if is_primary plan p then write_in x l.mine else Waiting) nothing ∙ waits_either (is_primary plan p)
+
 group_shown :
     (plan : Plan) (words : Families) (locals : ℕ → Local) (first : Bool) (stage : Stage) (g : ℕ) →
     Sound plan →
@@ -475,14 +496,12 @@ group_shown plan words locals first stage g sound padded rule =
           let begun : writes_now plan p s.group ≡ has_begun (s.group g) =
           ap (λ b. b && has_begun (s.group (plan.group p))) primary ∙ ap (λ h. has_begun (s.group h)) lead.1 in
           group_by (s.group g) (plan.kind p) (writes_now plan p s.group) (s.place p) l
-          (ap (λ b. if b then write_in l.phase l.mine else Waiting) primary)
+          (lead_write plan locals first g lead.1)
           lead.0
           begun
           (ap (place_seen (place_in l.phase l.mine)) (unsettled plan locals first p (ap is_offline lead.0)))
       | inr absent ↦
-          let nothing : l.phase ≡ phase.Nothing = subst (λ kind. Knows kind plan p l s) absent (rule.knows p) in
-          let waits : s.group g ≡ Waiting =
-          ap (λ x. if is_primary plan p then write_in x l.mine else Waiting) nothing ∙ waits_either (is_primary plan p) in
+          let waits : s.group g ≡ Waiting = absent_waits plan words locals first stage p rule absent in
           ap (λ k. group_of (res_code (s.group g)) (mode_code k (writes_now plan p s.group) (s.place p)) l) absent
           ∙ ap (λ x. group_of (res_code x) 0 l) waits
           ∙ sym waits
