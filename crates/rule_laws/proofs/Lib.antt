@@ -8,3 +8,5 @@ pub mod Assemble
 pub mod Step
 pub mod Loops
 pub mod Facts
+pub mod Opening
+pub mod Showing
