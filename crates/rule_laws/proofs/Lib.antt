@@ -10,3 +10,4 @@ pub mod Loops
 pub mod Facts
 pub mod Opening
 pub mod Showing
+pub mod Safety
