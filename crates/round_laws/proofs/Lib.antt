@@ -1,2 +1,5 @@
+pub mod Found
+pub mod Paths
 pub mod Kicking
+pub mod Deciding
 pub mod Verdicts
