@@ -2,4 +2,5 @@ pub mod Found
 pub mod Paths
 pub mod Kicking
 pub mod Deciding
+pub mod Waiting
 pub mod Verdicts
