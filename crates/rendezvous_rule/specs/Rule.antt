@@ -5,7 +5,7 @@ use Rattle.rendezvous_steps.specs.declared.steps.Kind.TheVariants.{Online}
 use Rattle.rendezvous_steps.specs.declared.steps.Local.{Local}
 use Rattle.rendezvous_steps.specs.Plan.{Plan, online_count, offline_count}
 use Rattle.rendezvous_steps.specs.Words.{Families}
-use Rattle.rendezvous_model.specs.Round.{Stage, Gathering, Going, DroppedByKick, DroppedBy, State, nobody}
+use Rattle.rendezvous_model.specs.Round.{Stage, Gathering, Going, DroppedByKick, DroppedBy, nobody}
 use Rattle.rendezvous_rule.specs.View.{views}
 use Rattle.rendezvous_rule.specs.Seen.{seen, words_of}
 use Rattle.rendezvous_rule.specs.Knows.{AllHere, Knows}

@@ -1,5 +1,5 @@
 -- The thread that arrived last decides: it goes, or finds that another dropped.
-use Rattle.std.proofs.Common.{◌≡◌, ◌≢◌, ℕ, ◌+◌, Bool, true, false, not, ◌&&◌, ◌||◌, ◌==◌, if◌then◌else◌, refl, ap, sym, ◌∙◌, subst}
+use Rattle.std.proofs.Common.{◌≡◌, ◌≢◌, ℕ, Bool, true, false, ◌||◌, ◌==◌, if◌then◌else◌, refl, ap, sym, ◌∙◌, subst}
 use Rattle.rendezvous_steps.specs.declared.steps.Kind.TheVariants.{Online}
 use Rattle.rendezvous_steps.specs.declared.steps.Phase.TheVariants as phase
 use Rattle.rendezvous_steps.specs.declared.steps.Local.{Local}
@@ -10,25 +10,24 @@ use Rattle.rendezvous_steps.specs.declared.operations.Op.TheVariants.{Cas}
 use Rattle.rendezvous_steps.specs.declared.items.What.TheVariants as what
 use Rattle.rendezvous_steps.specs.Plan.{Plan, Sound}
 use Rattle.rendezvous_steps.specs.Padded.{Padded}
-use Rattle.rendezvous_steps.specs.Words.{Families, families, words_after}
+use Rattle.rendezvous_steps.specs.Words.{Families, families}
 use Rattle.rendezvous_steps.specs.StepTable.{operation, after, go_path, drop_path}
 use Rattle.rendezvous_steps.specs.Events.{Running, put, steps}
-use Rattle.rendezvous_model.specs.Round.{In, Stage, Gathering, Going, DroppedByKick, DroppedBy, State, nobody, is_dropped}
+use Rattle.rendezvous_model.specs.Round.{Stage, Gathering, Going, DroppedByKick, DroppedBy, nobody, is_dropped}
 use Rattle.rendezvous_model.specs.RoundItems.{Goes}
-use Rattle.rendezvous_model.specs.Outcome.{decide_of}
 use Rattle.rendezvous_rule.specs.View.{View, view, views}
 use Rattle.rendezvous_rule.specs.Seen.{seen, words_of}
 use Rattle.rendezvous_rule.specs.Knows.{Knows}
-use Rattle.rendezvous_rule.specs.Rule.{RuleBy, Gathered}
+use Rattle.rendezvous_rule.specs.Rule.{RuleBy}
 use Rattle.rule_laws.specs.Kept.{Kept, event_of}
-use Rattle.rule_laws.proofs.Frame.{at_phase, put_same}
+use Rattle.rule_laws.proofs.Frame.{at_phase}
 use Rattle.rule_laws.proofs.Tables.{only_deciding}
 use Rattle.rule_laws.proofs.Later.{later_stage}
-use Rattle.rule_laws.proofs.Step.{Change, step_kept, unseen_kept, inner_round, is_step, stands_in}
+use Rattle.rule_laws.proofs.Step.{step_kept, unseen_kept, inner_round, is_step, stands_in}
 use Rattle.rule_laws.proofs.Facts.{state, view_is, is_inside, own_round}
 use Rattle.round_laws.specs.OneStep.{KeepsTheRule}
 use Rattle.round_laws.proofs.Found.{cas_keeps, dropped_not_0, not_taken}
-use Rattle.round_laws.proofs.Paths.{plain, go_view, go_row, drop_arrived, drop_row, given_anew}
+use Rattle.round_laws.proofs.Paths.{go_view, go_row, drop_arrived, drop_row, given_anew}
 
 -- the threads gather: it goes
 goes_kept :

@@ -1,10 +1,10 @@
 -- Operations that leave their word as it was, and tests of a number that was found.
-use Rattle.std.proofs.Common.{◌≡◌, ◌≢◌, ℕ, ◌+◌, Bool, true, false, ◌==◌, if◌then◌else◌, refl, ap, sym, ◌∙◌, arith}
+use Rattle.std.proofs.Common.{◌≡◌, ℕ, Bool, true, false, ◌==◌, if◌then◌else◌, refl, ap, arith}
 use Rattle.std.proofs.lemmas.Bool.Decides.{nat_tests}
 use Rattle.rendezvous_steps.specs.declared.operations.Word.{Word}
 use Rattle.rendezvous_steps.specs.declared.operations.Word.TheVariants.{Arrive, OffIn, Decide, Mode, Ctrl, Nmi, Rev, Res}
 use Rattle.rendezvous_steps.specs.declared.operations.Op.TheVariants.{Load, Cas}
-use Rattle.rendezvous_steps.specs.Words.{Families, families, put_word, words_after}
+use Rattle.rendezvous_steps.specs.Words.{families, put_word, words_after}
 use Rattle.rendezvous_steps.specs.Events.{put}
 use Rattle.rendezvous_model.specs.Round.{Stage, Gathering, Going, DroppedByKick, DroppedBy, is_dropped}
 use Rattle.rendezvous_model.specs.Outcome.{decide_of}

@@ -1,20 +1,19 @@
 -- Thread 0 kicks an Offline thread.
-use Rattle.std.proofs.Common.{◌≡◌, ℕ, ◌+◌, ◌<◌, Bool, true, false, ◌&&◌, ◌==◌, nat_lt, Option, Some, None, refl, ap, sym, ◌∙◌, subst}
+use Rattle.std.proofs.Common.{◌≡◌, ℕ, ◌+◌, Bool, true, false, ◌&&◌, nat_lt, Option, Some, None, refl, ap, sym, ◌∙◌, subst}
 use mathlib.Core.Path.{fun_ext}
-use Rattle.rendezvous_steps.specs.declared.steps.Kind.TheVariants.{Online, Offline}
+use Rattle.rendezvous_steps.specs.declared.steps.Kind.TheVariants.{Offline}
 use Rattle.rendezvous_steps.specs.declared.steps.Phase.TheVariants as phase
-use Rattle.rendezvous_steps.specs.declared.steps.Local.{Local}
 use Rattle.rendezvous_steps.specs.declared.steps.How.{How}
 use Rattle.rendezvous_steps.specs.declared.steps.How.TheVariants as how
 use Rattle.rendezvous_steps.specs.declared.operations.Word.TheVariants as word
 use Rattle.rendezvous_steps.specs.declared.operations.Op.TheVariants.{Store}
 use Rattle.rendezvous_steps.specs.declared.items.What.TheVariants as what
-use Rattle.rendezvous_steps.specs.Plan.{Plan, Sound, is_offline, offline_from, offline_count}
+use Rattle.rendezvous_steps.specs.Plan.{Plan, Sound, is_offline, offline_from}
 use Rattle.rendezvous_steps.specs.Padded.{Padded}
-use Rattle.rendezvous_steps.specs.Words.{Families, families, words_after}
+use Rattle.rendezvous_steps.specs.Words.{Families, families}
 use Rattle.rendezvous_steps.specs.StepTable.{operation, after, kick_at}
 use Rattle.rendezvous_steps.specs.Events.{Running, put, steps}
-use Rattle.rendezvous_model.specs.Round.{In, Out, State, Stage}
+use Rattle.rendezvous_model.specs.Round.{State, Stage}
 use Rattle.rendezvous_model.specs.RoundItems.{Kicks}
 use Rattle.rendezvous_rule.specs.View.{View, view, views}
 use Rattle.rendezvous_rule.specs.Seen.{seen, words_of, nmi_code}
@@ -24,7 +23,7 @@ use Rattle.rule_laws.specs.Kept.{Kept, event_of}
 use Rattle.rule_laws.proofs.Frame.{at_phase, coded, and_false, some_offline, not_itself}
 use Rattle.rule_laws.proofs.Tables.{only_kicks, sees_kicks}
 use Rattle.rule_laws.proofs.Later.{later_kicked}
-use Rattle.rule_laws.proofs.Step.{Change, step_kept, is_step, stands_in}
+use Rattle.rule_laws.proofs.Step.{step_kept, is_step, stands_in}
 use Rattle.rule_laws.proofs.Loops.{past, offline_goes_on, offline_found}
 use Rattle.rule_laws.proofs.Facts.{state, view_is, is_inside, own_round, unkicked_is_out}
 use Rattle.round_laws.specs.OneStep.{KeepsTheRule}

@@ -4,3 +4,5 @@ pub mod Kicking
 pub mod Deciding
 pub mod Waiting
 pub mod Verdicts
+pub mod Inside
+pub mod Freeing

@@ -1,18 +1,17 @@
 -- The go path and the drop path: what others see of a thread that takes one, and what it knows then.
-use Rattle.std.proofs.Common.{◌≡◌, ◌≢◌, ℕ, Bool, true, false, not, ◌&&◌, ◌||◌, ◌==◌, nat_lt, if◌then◌else◌, Option, Some, None, refl, ap, sym, ◌∙◌, subst}
+use Rattle.std.proofs.Common.{◌≡◌, ◌≢◌, ℕ, Bool, true, false, not, ◌&&◌, ◌||◌, ◌==◌, if◌then◌else◌, Option, Some, None, refl, ap, sym, ◌∙◌}
 use mathlib.Core.Path.{fun_ext}
-use Rattle.rendezvous_steps.specs.declared.steps.Kind.{Kind}
-use Rattle.rendezvous_steps.specs.declared.steps.Kind.TheVariants.{Online, Offline}
+use Rattle.rendezvous_steps.specs.declared.steps.Kind.TheVariants.{Online}
 use Rattle.rendezvous_steps.specs.declared.steps.Phase.TheVariants as phase
 use Rattle.rendezvous_steps.specs.declared.steps.Local.{Local}
 use Rattle.rendezvous_steps.specs.Plan.{Plan, is_offline, is_primary, is_sibling, offline_from}
 use Rattle.rendezvous_steps.specs.Padded.{Padded}
 use Rattle.rendezvous_steps.specs.StepTable.{go_path, drop_path, to, wait_in, with_result, withdraw_at}
-use Rattle.rendezvous_model.specs.Round.{Place, In, GroupPlace, Waiting, Going, State, is_dropped}
+use Rattle.rendezvous_model.specs.Round.{In, Waiting, Going, State, is_dropped}
 use Rattle.rendezvous_rule.specs.View.{View, view}
-use Rattle.rendezvous_rule.specs.Knows.{Knows, OnlineKnows}
+use Rattle.rendezvous_rule.specs.Knows.{Knows}
 use Rattle.rule_laws.proofs.Frame.{and_false, equal_numbers, different}
-use Rattle.rule_laws.proofs.Loops.{past, offline_begins, offline_found, none_offline}
+use Rattle.rule_laws.proofs.Loops.{offline_begins, offline_found}
 
 -- the view of a thread inside that has kicked all, and of which nothing more shows but whether it has arrived, and decides
 abbrev pub plain : Plan → ℕ → Bool → Bool → View

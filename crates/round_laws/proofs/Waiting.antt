@@ -1,5 +1,5 @@
 -- A thread that has arrived waits for the decision: it polls, takes the path that it finds, or drops.
-use Rattle.std.proofs.Common.{◌≡◌, ◌≢◌, ◌⊎◌, Some, ℕ, suc, ◌+◌, ◌-◌, ◌<◌, ◌≤◌, Bool, true, false, cond, not, ◌&&◌, ◌||◌, ◌==◌, if◌then◌else◌, refl, ap, sym, ◌∙◌, subst, arith, inl, inr, true≢false, eq-zero-or-pos}
+use Rattle.std.proofs.Common.{◌≡◌, ◌≢◌, ◌⊎◌, Some, ℕ, ◌+◌, ◌-◌, ◌<◌, Bool, true, false, cond, ◌||◌, ◌==◌, if◌then◌else◌, refl, ap, sym, ◌∙◌, subst, arith, inl, inr, true≢false, eq-zero-or-pos}
 use Rattle.rendezvous_steps.specs.declared.steps.Kind.{Kind}
 use Rattle.rendezvous_steps.specs.declared.steps.Kind.TheVariants.{Online, Offline, Absent}
 use Rattle.rendezvous_steps.specs.declared.steps.Phase.{Phase}
@@ -10,33 +10,32 @@ use Rattle.rendezvous_steps.specs.declared.steps.How.TheVariants as how
 use Rattle.rendezvous_steps.specs.declared.operations.Word.TheVariants as word
 use Rattle.rendezvous_steps.specs.declared.operations.Op.{Op}
 use Rattle.rendezvous_steps.specs.declared.operations.Op.TheVariants.{Cas, Load}
-use Rattle.rendezvous_steps.specs.declared.items.What.{What}
 use Rattle.rendezvous_steps.specs.declared.items.What.TheVariants as what
 use Rattle.rendezvous_steps.specs.Plan.{Plan, Sound, is_online, online_count}
 use Rattle.rendezvous_steps.specs.Padded.{Padded}
 use Rattle.rendezvous_steps.specs.Words.{Families, families, touched, words_after}
 use Rattle.rendezvous_steps.specs.StepTable.{operation, after, after_in, go_path, drop_path, polled, by_decision}
-use Rattle.rendezvous_steps.specs.Events.{Running, put, steps}
+use Rattle.rendezvous_steps.specs.Events.{Running, steps}
 use Rattle.rendezvous_model.specs.Round.{In, Stage, Gathering, Going, DroppedByKick, DroppedBy, State, nobody, is_dropped, is_gathering}
 use Rattle.rendezvous_model.specs.Round as round
 use Rattle.rendezvous_model.specs.RoundItems.{Drops}
-use Rattle.rendezvous_model.specs.RoundEnds.{MayWait, for_decision}
+use Rattle.rendezvous_model.specs.RoundEnds.{for_decision}
 use Rattle.rendezvous_model.specs.Outcome.{decide_of}
-use Rattle.rendezvous_rule.specs.View.{View, view, views, arrived_in, decides_in}
+use Rattle.rendezvous_rule.specs.View.{View, view, views, decides_in}
 use Rattle.rendezvous_rule.specs.Seen.{seen, words_of}
-use Rattle.rendezvous_rule.specs.Knows.{Knows, OnlineKnows, OfflineKnows}
-use Rattle.rendezvous_rule.specs.Rule.{RuleBy, Gathered, AllOnlineHere}
+use Rattle.rendezvous_rule.specs.Knows.{Knows}
+use Rattle.rendezvous_rule.specs.Rule.{RuleBy, AllOnlineHere}
 use Rattle.rule_laws.specs.Kept.{Kept, event_of}
 use Rattle.rule_laws.proofs.Count.{count, count_some, same_or_not}
 use Rattle.rule_laws.proofs.Threads.{count_zero_first}
 use Rattle.rule_laws.proofs.Search.{online_in_range}
-use Rattle.rule_laws.proofs.Frame.{at_phase, and_true, same_numbers}
+use Rattle.rule_laws.proofs.Frame.{at_phase, and_true}
 use Rattle.rule_laws.proofs.Tables.{same_view}
 use Rattle.rule_laws.proofs.Later.{later_stage}
-use Rattle.rule_laws.proofs.Step.{Change, step_kept, inner_kept, poll_kept, is_step, stands_in}
+use Rattle.rule_laws.proofs.Step.{step_kept, inner_kept, poll_kept, is_step, stands_in}
 use Rattle.rule_laws.proofs.Facts.{state, view_is, is_inside}
 use Rattle.round_laws.specs.OneStep.{KeepsTheRule}
-use Rattle.round_laws.proofs.Found.{load_keeps, cas_keeps, dropped_not_0, dropped_not_1, taken, not_taken}
+use Rattle.round_laws.proofs.Found.{load_keeps, cas_keeps, dropped_not_0, dropped_not_1, not_taken}
 use Rattle.round_laws.proofs.Paths.{plain, go_view, go_row, drop_arrived, drop_row, given_anew}
 
 -- Thread 0 that waits while nothing is decided is not the only Online thread.

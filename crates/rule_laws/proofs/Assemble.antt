@@ -1,5 +1,5 @@
 -- The state that is shown is the state that the views make.
-use Rattle.std.proofs.Common.{◌≡◌, ◌≢◌, ◌⊎◌, ℕ, ◌+◌, ◌-◌, ◌<◌, ◌≤◌, Bool, true, false, cond, not, ◌&&◌, ◌||◌, ◌==◌, nat_le, if◌then◌else◌, refl, ap, sym, ◌∙◌, subst, arith, inl, inr, true≢false}
+use Rattle.std.proofs.Common.{◌≡◌, ◌≢◌, ◌⊎◌, ℕ, ◌+◌, ◌-◌, ◌<◌, Bool, true, false, cond, not, ◌&&◌, ◌||◌, ◌==◌, if◌then◌else◌, refl, ap, sym, ◌∙◌, subst, arith, inl, inr}
 use Rattle.std.proofs.lemmas.Bool.{cases_lt}
 use Rattle.std.proofs.lemmas.Bool.Decides.{nat_tests}
 use Rattle.rendezvous_steps.specs.declared.steps.Kind.{Kind}
@@ -9,22 +9,22 @@ use Rattle.rendezvous_steps.specs.declared.steps.ThreadResult.TheVariants as res
 use Rattle.rendezvous_steps.specs.declared.steps.Phase.{Phase}
 use Rattle.rendezvous_steps.specs.declared.steps.Phase.TheVariants as phase
 use Rattle.rendezvous_steps.specs.declared.steps.Local.{Local}
-use Rattle.rendezvous_steps.specs.Plan.{Plan, Sound, is_online, is_offline, is_absent, is_primary}
+use Rattle.rendezvous_steps.specs.Plan.{Plan, Sound, is_online, is_offline, is_primary}
 use Rattle.rendezvous_steps.specs.Padded.{Padded}
 use Rattle.rendezvous_steps.specs.Words.{Families}
 use Rattle.rendezvous_steps.specs.StepTable.{number_of, result_of}
-use Rattle.rendezvous_model.specs.Round.{Place, Out, In, Left, Halted, Withdrawn, Absent, Stage, Gathering, Going, DroppedByKick, DroppedBy, GroupPlace, Waiting, Writing, Written, Reported, State, nobody, is_gathering, still_awaited}
+use Rattle.rendezvous_model.specs.Round.{Place, Out, In, Left, Halted, Withdrawn, Absent, Stage, Gathering, Going, DroppedByKick, DroppedBy, GroupPlace, Waiting, Written, Reported, State, nobody, is_gathering, still_awaited}
 use Rattle.rendezvous_model.specs.Outcome.{decide_of}
 use Rattle.rendezvous_rule.specs.Facets.{past_arriving, has_counted, is_deciding, is_writing, past_writing}
 use Rattle.rendezvous_rule.specs.Awaited.{awaited}
 use Rattle.rendezvous_rule.specs.Shown.{shown, place_of, arrived_of, stage_of, group_of}
-use Rattle.rendezvous_rule.specs.View.{views, view, place_in, arrived_in, decides_in, write_in, kicks_in, settles_in, is_timeout}
+use Rattle.rendezvous_rule.specs.View.{views, place_in, arrived_in, decides_in, write_in, kicks_in, settles_in, is_timeout}
 use Rattle.rendezvous_rule.specs.Seen.{seen, words_of, place_seen, freed_seen, mode_code, ctrl_code, nmi_code, res_code, release_code, has_begun, writes_now}
 use Rattle.rendezvous_rule.specs.Knows.{Knows, OnlineKnows, OfflineKnows}
 use Rattle.rendezvous_rule.specs.Rule.{RuleBy}
 use Rattle.rule_laws.proofs.Count.{count, count_same_from, same_or_not}
 use Rattle.rule_laws.proofs.Threads.{count_zero_first}
-use Rattle.rule_laws.proofs.Frame.{same_state, and_true, and_both, and_false, not_so, same_numbers, different, another_kind, is_at, at_phase}
+use Rattle.rule_laws.proofs.Frame.{same_state, and_true, and_both, same_numbers, different, another_kind, at_phase}
 
 -- Whom thread 0 is done with, it has kicked.
 
@@ -404,7 +404,7 @@ group_back :
     ≡ write_in p mine
 unfolding is_writing past_writing
 group_back phase.Reporting at polls mine = reporting_back _ at polls mine
-group_back phase.Freeing at polls mine = 
+group_back phase.Freeing at polls mine =
     reported_back (result_of mine) (mode_code Online (has_begun (Reported (result_of mine))) In) (at_phase phase.Freeing at polls mine)
 group_back phase.Leaving at polls mine = leaving_back (is_timeout mine) (result_of mine) (at_phase phase.Leaving at polls mine)
 group_back phase.Left at polls mine = left_back (is_timeout mine) (result_of mine) (at_phase phase.Left at polls mine)

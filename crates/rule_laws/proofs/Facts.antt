@@ -1,7 +1,6 @@
 -- What the rule says of the state that the views make.
-use Rattle.std.proofs.Common.{◌≡◌, ◌≢◌, ℕ, Bool, true, false, not, ◌&&◌, ◌||◌, ◌==◌, nat_lt, if◌then◌else◌, ◌⊎◌, Option, Some, None, refl, ap, sym, ◌∙◌, subst, inl, inr, true≢false}
-use Rattle.rendezvous_steps.specs.declared.steps.Kind.{Kind}
-use Rattle.rendezvous_steps.specs.declared.steps.Kind.TheVariants.{Online, Offline, Absent}
+use Rattle.std.proofs.Common.{◌≡◌, ◌≢◌, ℕ, Bool, true, false, not, ◌&&◌, if◌then◌else◌, refl, ap, sym, ◌∙◌, subst, inl, inr, true≢false}
+use Rattle.rendezvous_steps.specs.declared.steps.Kind.TheVariants.{Offline}
 use Rattle.rendezvous_steps.specs.declared.steps.ThreadResult.{ThreadResult}
 use Rattle.rendezvous_steps.specs.declared.steps.ThreadResult.TheVariants as results
 use Rattle.rendezvous_steps.specs.declared.steps.Phase.{Phase}
@@ -14,17 +13,17 @@ use Rattle.rendezvous_steps.specs.Plan.{Plan, Sound, is_offline, is_primary, is_
 use Rattle.rendezvous_steps.specs.Padded.{Padded}
 use Rattle.rendezvous_steps.specs.Words.{Families}
 use Rattle.rendezvous_steps.specs.StepTable.{number_of, result_of}
-use Rattle.rendezvous_model.specs.Round.{Place, Out, In, Left, Halted, Withdrawn, Absent as PlaceAbsent, Stage, Gathering, Going, DroppedByKick, DroppedBy, GroupPlace, Waiting, Writing, Written, Reported, State, Step, Timeout, nobody, is_dropped, is_going}
+use Rattle.rendezvous_model.specs.Round.{Place, Out, In, Left, Halted, Withdrawn, Absent as PlaceAbsent, Stage, Going, GroupPlace, Waiting, Written, Reported, State, Step, Timeout, nobody, is_dropped}
 use Rattle.rendezvous_model.specs.RoundStep.{Round, RoundBy}
-use Rattle.rendezvous_rule.specs.View.{View, Views, view, views, place_in, write_in, frees_in, kicks_in, settles_in, is_timeout}
-use Rattle.rendezvous_rule.specs.Seen.{seen, place_seen, freed_seen, words_of}
+use Rattle.rendezvous_rule.specs.View.{view, views, place_in, write_in, frees_in, settles_in, is_timeout}
+use Rattle.rendezvous_rule.specs.Seen.{seen, place_seen, freed_seen}
 use Rattle.rendezvous_model.specs.RoundEnds.{okay_for}
-use Rattle.rendezvous_rule.specs.Knows.{Knows, OnlineKnows, OfflineKnows, Ends, report_of, report_by, result_for}
+use Rattle.rendezvous_rule.specs.Knows.{Knows, OnlineKnows, OfflineKnows, Ends, report_of, result_for}
 use Rattle.rendezvous_rule.specs.Rule.{RuleBy}
 use Rattle.rule_laws.specs.Kept.{event_of}
-use Rattle.rule_laws.proofs.Frame.{and_true, and_both, not_so, same_numbers, sibling, primary_is}
+use Rattle.rule_laws.proofs.Frame.{and_true, not_so, same_numbers, sibling}
 use Rattle.rule_laws.proofs.Tables.{view_at}
-use Rattle.rule_laws.proofs.Assemble.{settled_kicked, unsettled, number_back, led, lead_write, absent_waits}
+use Rattle.rule_laws.proofs.Assemble.{settled_kicked, number_back, led, lead_write, absent_waits}
 use Rattle.rule_laws.proofs.Step.{is_step}
 
 -- the state that the views make, with nobody latched

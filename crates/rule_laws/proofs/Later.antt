@@ -1,5 +1,5 @@
 -- What a step of one thread leaves true for all others: the sets and places that they know of only grow.
-use Rattle.std.proofs.Common.{◌≡◌, ◌≢◌, ℕ, Bool, true, false, refl, ap, sym, ◌∙◌, subst, true≢false}
+use Rattle.std.proofs.Common.{◌≡◌, ◌≢◌, ℕ, Bool, true, false, refl, ap, sym, ◌∙◌, true≢false}
 use Rattle.rendezvous_steps.specs.declared.steps.Kind.{Kind}
 use Rattle.rendezvous_steps.specs.declared.steps.Kind.TheVariants.{Online, Offline, Absent}
 use Rattle.rendezvous_steps.specs.declared.steps.Phase.{Phase}
@@ -7,7 +7,7 @@ use Rattle.rendezvous_steps.specs.declared.steps.Phase.TheVariants as phase
 use Rattle.rendezvous_steps.specs.declared.steps.Local.{Local}
 use Rattle.rendezvous_steps.specs.Plan.{Plan}
 use Rattle.rendezvous_steps.specs.Events.{put}
-use Rattle.rendezvous_model.specs.Round.{Place, Withdrawn, Stage, Gathering, Going, DroppedByKick, DroppedBy, GroupPlace, State, nobody, is_dropped}
+use Rattle.rendezvous_model.specs.Round.{Place, Withdrawn, Stage, Gathering, Going, DroppedByKick, DroppedBy, GroupPlace, State, is_dropped}
 use Rattle.rendezvous_rule.specs.Knows.{Knows, OnlineKnows, OfflineKnows, Ends, has_come}
 use Rattle.rule_laws.proofs.Frame.{put_all, grows}
 

@@ -1,14 +1,12 @@
 -- The rule holds when a rendezvous begins, and the model's opening state is shown there.
 use Rattle.std.proofs.Common.{◌≡◌, ℕ, ◌-◌, Bool, true, false, not, ◌&&◌, ◌||◌, ◌==◌, if◌then◌else◌, refl, ap, sym, ◌∙◌, subst}
-use mathlib.Core.Path.{fun_ext}
 use Rattle.rendezvous_steps.specs.declared.steps.Kind.{Kind}
 use Rattle.rendezvous_steps.specs.declared.steps.Kind.TheVariants.{Online, Offline, Absent}
 use Rattle.rendezvous_steps.specs.Plan.{Plan, Sound, is_online, is_offline, is_primary, is_sibling, online_count}
-use Rattle.rendezvous_steps.specs.Padded.{Padded}
-use Rattle.rendezvous_steps.specs.Words.{Families, families, opening_words}
+use Rattle.rendezvous_steps.specs.Words.{families, opening_words}
 use Rattle.rendezvous_steps.specs.StepTable.{opening, opening_phase, opening_mine}
-use Rattle.rendezvous_model.specs.Round.{Place, Out, Absent as PlaceAbsent, GroupPlace, Waiting, Gathering, State, nobody, opening_state, opening_place, still_awaited, offline_arrived}
-use Rattle.rendezvous_rule.specs.View.{view, views, place_in, arrived_in, decides_in, write_in, frees_in, kicks_in, settles_in}
+use Rattle.rendezvous_model.specs.Round.{Out, GroupPlace, Waiting, Gathering, State, nobody, opening_state, opening_place, still_awaited, offline_arrived}
+use Rattle.rendezvous_rule.specs.View.{views, place_in, arrived_in, decides_in, write_in, frees_in, kicks_in, settles_in}
 use Rattle.rendezvous_rule.specs.Seen.{seen, words_of, place_seen, freed_seen, revision_in, mode_code, ctrl_code, nmi_code}
 use Rattle.rendezvous_rule.specs.Knows.{Knows}
 use Rattle.rendezvous_rule.specs.Rule.{RuleBy, Gathered}

@@ -1,5 +1,5 @@
 -- A state that a moment with the rule shows is safe.
-use Rattle.std.proofs.Common.{◌≡◌, ◌≢◌, ◌⊎◌, ℕ, Bool, true, false, not, ◌&&◌, ◌||◌, ◌==◌, if◌then◌else◌, Option, Some, None, unwrap_or, refl, ap, sym, ◌∙◌, subst, inl, inr, true≢false}
+use Rattle.std.proofs.Common.{◌≡◌, ◌≢◌, ◌⊎◌, ℕ, Bool, true, false, not, ◌||◌, ◌==◌, if◌then◌else◌, Option, Some, None, unwrap_or, refl, ap, sym, ◌∙◌, subst, inl, inr, true≢false}
 use Rattle.rendezvous_steps.specs.declared.steps.Kind.{Kind}
 use Rattle.rendezvous_steps.specs.declared.steps.Kind.TheVariants.{Online, Offline, Absent as KindAbsent}
 use Rattle.rendezvous_steps.specs.declared.steps.ThreadResult.{ThreadResult}
@@ -7,21 +7,21 @@ use Rattle.rendezvous_steps.specs.declared.steps.ThreadResult.TheVariants as res
 use Rattle.rendezvous_steps.specs.declared.steps.Phase.{Phase}
 use Rattle.rendezvous_steps.specs.declared.steps.Phase.TheVariants as phase
 use Rattle.rendezvous_steps.specs.declared.steps.Local.{Local}
-use Rattle.rendezvous_steps.specs.Plan.{Plan, Sound, is_offline, is_primary}
+use Rattle.rendezvous_steps.specs.Plan.{Plan, Sound, is_primary}
 use Rattle.rendezvous_steps.specs.Padded.{Padded}
 use Rattle.rendezvous_steps.specs.Words.{Families, families}
-use Rattle.rendezvous_steps.specs.StepTable.{number_of, result_of, write_of}
-use Rattle.rendezvous_model.specs.Round.{Place, Out, In, Left, Halted, Withdrawn, Absent, Stage, Going, GroupPlace, Waiting, Writing, Written, Reported, State, nobody, is_held, is_halted, is_going, is_dropped}
+use Rattle.rendezvous_steps.specs.StepTable.{result_of, write_of}
+use Rattle.rendezvous_model.specs.Round.{Place, Left, Stage, Going, GroupPlace, Waiting, Writing, Written, Reported, State, is_held, is_halted, is_going}
 use Rattle.rendezvous_model.specs.RoundEnds.{okay_for}
 use Rattle.rendezvous_model.specs.Safe.{Safe, is_in_write}
-use Rattle.rendezvous_rule.specs.View.{views, view, place_in, arrived_in, write_in, is_timeout}
+use Rattle.rendezvous_rule.specs.View.{views, place_in, arrived_in, write_in, is_timeout}
 use Rattle.rendezvous_rule.specs.Seen.{seen, place_seen, revision_in}
 use Rattle.rendezvous_rule.specs.Knows.{Knows, OnlineKnows, OfflineKnows, Ends, report_of, report_by, result_for}
 use Rattle.rendezvous_rule.specs.Rule.{RuleBy}
 use Rattle.rule_laws.specs.Laws.{RuledIsSafe}
 use Rattle.rule_laws.proofs.Frame.{primary_is, equal_numbers}
-use Rattle.rule_laws.proofs.Assemble.{shown_is_seen, unsettled, number_back}
-use Rattle.rule_laws.proofs.Facts.{state, begun_going, reported_is, freed_reported, going_undropped, same_result}
+use Rattle.rule_laws.proofs.Assemble.{shown_is_seen, number_back}
+use Rattle.rule_laws.proofs.Facts.{state, begun_going, reported_is, freed_reported, going_undropped}
 
 -- Where the threads of a group that writes are.
 

@@ -5,9 +5,7 @@ use Rattle.rendezvous_steps.specs.Plan.{Plan}
 use Rattle.rendezvous_steps.specs.Words.{families}
 use Rattle.rendezvous_model.specs.Round.{Stage, Gathering, Going, DroppedByKick, DroppedBy, State, still_awaited, offline_arrived}
 use Rattle.rendezvous_model.specs.Outcome.{decide_of}
-use Rattle.rendezvous_rule.specs.Shown.{shown_by}
 use Rattle.rendezvous_rule.specs.Seen.{words_of}
-use Rattle.rendezvous_rule.specs.Rule.{Gathered}
 use Rattle.rule_laws.specs.Laws.{RuledShows, ShowsOne}
 use Rattle.rule_laws.proofs.Assemble.{shown_is_seen}
 

@@ -1,5 +1,5 @@
 -- A step, from what it changes: the rule is kept, and the item is a step of the model.
-use Rattle.std.proofs.Common.{◌≡◌, ◌≢◌, ℕ, Bool, true, false, ◌&&◌, Some, refl, ap, sym, ◌∙◌, subst}
+use Rattle.std.proofs.Common.{◌≡◌, ◌≢◌, ℕ, Bool, true, false, Some, refl, ap, sym, ◌∙◌, subst}
 use Rattle.rendezvous_steps.specs.declared.steps.Kind.{Kind}
 use Rattle.rendezvous_steps.specs.declared.steps.Kind.TheVariants.{Online, Offline, Absent}
 use Rattle.rendezvous_steps.specs.declared.steps.Phase.{Phase}
@@ -18,14 +18,14 @@ use Rattle.rendezvous_steps.specs.Events.{Running, put, performs, steps}
 use Rattle.rendezvous_model.specs.Round.{In, Stage, Gathering, State, nobody, is_gathering}
 use Rattle.rendezvous_model.specs.RoundEnds.{MayWait}
 use Rattle.rendezvous_model.specs.RoundStep.{Round}
-use Rattle.rendezvous_rule.specs.Shown.{shown, shown_by}
+use Rattle.rendezvous_rule.specs.Shown.{shown}
 use Rattle.rendezvous_rule.specs.View.{View, Views, view, views, decides_in}
 use Rattle.rendezvous_rule.specs.Seen.{seen, words_of}
 use Rattle.rendezvous_rule.specs.Knows.{Knows, OnlineKnows, OfflineKnows}
-use Rattle.rendezvous_rule.specs.Rule.{Rule, RuleBy, Gathered}
-use Rattle.rule_laws.specs.Kept.{Ruled, Kept, event_of}
+use Rattle.rendezvous_rule.specs.Rule.{RuleBy, Gathered}
+use Rattle.rule_laws.specs.Kept.{Kept, event_of}
 use Rattle.rule_laws.proofs.Frame.{put_all, and_both, at_phase, is_at}
-use Rattle.rule_laws.proofs.Tables.{view_at, put_view, views_put, same_view}
+use Rattle.rule_laws.proofs.Tables.{put_view, views_put, same_view}
 use Rattle.rule_laws.proofs.Later.{Later, later_same, still}
 use Rattle.rule_laws.proofs.Assemble.{shown_is_seen}
 

@@ -1,13 +1,13 @@
 -- The views of all threads where one thread's state changes, and the state that they make.
-use Rattle.std.proofs.Common.{◌≡◌, ◌≢◌, ℕ, ◌+◌, Bool, true, false, not, ◌&&◌, ◌||◌, ◌==◌, refl, ap, sym, ◌∙◌, subst, inl, inr, true≢false}
+use Rattle.std.proofs.Common.{◌≡◌, ◌≢◌, ℕ, Bool, true, not, ◌||◌, refl, ap, sym, ◌∙◌, inl, inr}
 use mathlib.Core.Path.{fun_ext}
 use Rattle.std.proofs.lemmas.Bool.{cases_lt}
 use Rattle.rendezvous_steps.specs.declared.steps.Kind.TheVariants.{Online, Absent}
 use Rattle.rendezvous_steps.specs.declared.steps.Local.{Local}
-use Rattle.rendezvous_steps.specs.Plan.{Plan, Sound, is_primary, is_sibling}
+use Rattle.rendezvous_steps.specs.Plan.{Plan, Sound, is_primary}
 use Rattle.rendezvous_steps.specs.Padded.{Padded}
 use Rattle.rendezvous_steps.specs.Events.{put}
-use Rattle.rendezvous_model.specs.Round.{Place, Out, In, Withdrawn, Stage, GroupPlace, State, is_gathering}
+use Rattle.rendezvous_model.specs.Round.{Place, Stage, GroupPlace}
 use Rattle.rendezvous_rule.specs.View.{View, Views, view, views, tables, arrived_in}
 use Rattle.rendezvous_rule.specs.Seen.{seen, place_seen, freed_seen, revision_in}
 use Rattle.rule_laws.proofs.Count.{same_or_not}
