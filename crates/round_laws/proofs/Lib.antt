@@ -6,3 +6,5 @@ pub mod Waiting
 pub mod Verdicts
 pub mod Inside
 pub mod Freeing
+pub mod Groups
+pub mod Writing
