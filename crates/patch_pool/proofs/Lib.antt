@@ -4,3 +4,4 @@ pub mod Giving
 pub mod Lowest
 pub mod Taking
 pub mod Memory
+pub mod Pooling

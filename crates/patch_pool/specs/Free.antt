@@ -1,6 +1,7 @@
 -- Which blocks of a region are free, and how taking some and giving some back changes it.
-use Rattle.std.specs.Prelude.{◌≡◌, ℕ, ◌+◌, ◌-◌, ◌≤◌, ◌&&◌, ◌||◌, not, nat_le, nat_lt, Bool, true, Option, Some, None, is_some, find}
+use Rattle.std.specs.Prelude.{◌≡◌, ℕ, ◌+◌, ◌-◌, ◌<◌, ◌≤◌, ◌&&◌, ◌||◌, not, nat_le, nat_lt, Bool, true, Option, Some, None, is_some, find}
 use Rattle.std.specs.List.{range_with_len, list_all}
+use Rattle.region_steps.specs.Region.{Patches, is_covered}
 
 -- the block is one of so many, from the first on
 abbrev pub is_within : ℕ → ℕ → ℕ → Bool
@@ -27,3 +28,7 @@ IsTaken was_free is_free blocks needed (Some first) =
 abbrev pub IsGivenBack : (ℕ → Bool) → (ℕ → Bool) → ℕ → ℕ → Type 0
 IsGivenBack was_free is_free first count =
     (block : ℕ) → is_free block ≡ (was_free block || is_within first count block)
+
+-- the free blocks of a region are those that no patch covers
+abbrev pub AreFree : (ℕ → Bool) → Patches → ℕ → Type 0
+AreFree is_free patches blocks = (block : ℕ) → block < blocks → is_free block ≡ not (is_covered patches block)

@@ -1,3 +1,5 @@
 pub mod Free
 pub mod Runs
 pub mod Bytes
+pub mod Steps
+pub mod Pool

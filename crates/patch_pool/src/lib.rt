@@ -2,8 +2,8 @@
 //! blocks that is long enough, and known by its first block from then on.
 #![tactic(auto)]
 
+mod pool;
 mod region;
 mod runs;
 
-pub use region::Region;
-pub use runs::{Run, Runs};
+pub use pool::{PatchId, PatchPool, PoolFull};

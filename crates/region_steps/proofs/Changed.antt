@@ -27,7 +27,7 @@ out_other patches first other apart = rw (ne_eqb other first apart) refl
 pub covers_same : (one two : Patches) (first block : ℕ) (patch : Option (List ℕ)) → one first ≡ patch → two first ≡ patch → covers one first block ≡ covers two first block
 covers_same one two first block patch a b = ap (λ (p : Option (List ℕ)). nat_le first block && nat_lt block (first + width p)) (a ∙ sym b)
 
-covers_none : (patches : Patches) (first block : ℕ) → width (patches first) ≡ 0 → covers patches first block ≡ false
+pub covers_none : (patches : Patches) (first block : ℕ) → width (patches first) ≡ 0 → covers patches first block ≡ false
 covers_none patches first block none =
     elim (cases_lt block first) [
       | inl low ↦ covers_below patches first block low
