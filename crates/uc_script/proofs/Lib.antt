@@ -1,0 +1,4 @@
+mod Lines
+mod Read
+mod Scheduled
+mod Words

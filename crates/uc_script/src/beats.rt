@@ -1,0 +1,121 @@
+//! The schedules of loads.
+ghost use Rattle.std.specs.Prelude.{◌≡◌, drop, slice_index};
+ghost use Rattle.uc_text.specs.Lines.{words_of};
+ghost use Rattle.script_text.specs.Forms.{is_beat};
+ghost use Rattle.script_text.specs.Within.{fits_beat, events_of_beat, thread_of};
+ghost use Rattle.uc_script.specs.Schedules.{IsBeatRead, IsScheduled, Counted};
+
+use crate::answer::LineAnswer;
+use rendezvous_steps::{Beat, Event};
+use script_text::{BeatKind, Beats, Limits, ScriptCause};
+use uc_text::{Words, number};
+
+/// The events that one load may have.
+const MOST_EVENTS: u64 = 4_194_304;
+
+/// Puts the beats of a line behind those of its load, whose events are counted.
+pub fn add_beats(
+    limits: Limits,
+    line: &[u8],
+    beats: &mut Beats,
+    events: &mut u64,
+) -> Result<(), LineAnswer>
+    requires { Counted limits beats.old events.old }
+    ensures { IsScheduled limits (words_of line.now) beats.old beats.new events.new result }
+{
+    let mut spelled = true;
+    let mut in_range = true;
+    for word in Words::new(line) {
+        match read_beat(limits, word) {
+            Ok(beat) => {
+                beats.push(beat)?;
+                *events = events.saturating_add(events_of(limits, beat));
+            }
+            Err(ScriptCause::Number) => spelled = false,
+            Err(ScriptCause::Range) => in_range = false,
+            Err(cause) => return Err(LineAnswer::Cause(cause)),
+        }
+    }
+    if !spelled {
+        Err(LineAnswer::Cause(ScriptCause::Number))
+    } else if !in_range {
+        Err(LineAnswer::Cause(ScriptCause::Range))
+    } else if *events > MOST_EVENTS {
+        Err(LineAnswer::Cause(ScriptCause::TooMany))
+    } else {
+        Ok(())
+    }
+}
+
+/// The beat that a word states, or the first check that fails at it alone.
+fn read_beat(limits: Limits, word: &[u8]) -> Result<Beat, ScriptCause>
+    ensures { IsBeatRead limits word.now result }
+{
+    let Some(kind) = BeatKind::of(first_byte(word)) else {
+        return Err(ScriptCause::Word);
+    };
+    let Some(value) = number(after_first(word)) else {
+        return Err(ScriptCause::Number);
+    };
+    if value >= 1 << 16 {
+        return Err(ScriptCause::Range);
+    }
+    let beat = kind.with(value as u16);
+    if fits(limits, beat) {
+        Ok(beat)
+    } else {
+        Err(ScriptCause::Range)
+    }
+}
+
+/// Whether a word has the form of a beat, whatever follows its first byte.
+pub fn is_beat(word: &[u8]) -> bool
+    ensures { result ≡ is_beat word.now }
+{
+    BeatKind::of(first_byte(word)).is_some()
+}
+
+/// The first byte of a word; 0 where it has none.
+fn first_byte(word: &[u8]) -> u8
+    ensures { result ≡ slice_index word.now 0 }
+{
+    word.first().copied().unwrap_or(0)
+}
+
+/// What follows the first byte.
+fn after_first(word: &[u8]) -> &[u8]
+    ensures { result.now ≡ drop 1 word.now }
+{
+    match word {
+        [_, text @ ..] => text,
+        [] => word,
+    }
+}
+
+/// Whether the thread of an event is there, or the rounds are some.
+fn fits(limits: Limits, beat: Beat) -> bool
+    ensures { result ≡ fits_beat limits beat }
+{
+    match beat {
+        Beat::One(event) => thread_of(event) < limits.threads,
+        Beat::Rounds(rounds) => rounds >= 1,
+    }
+}
+
+fn thread_of(event: Event) -> u16
+    ensures { result ≡ thread_of event }
+{
+    match event {
+        Event::Step(t) | Event::Timeout(t) | Event::Nmi(t) | Event::Run(t) => t,
+    }
+}
+
+/// A round is one event of each thread.
+fn events_of(limits: Limits, beat: Beat) -> u64
+    ensures { result ≡ events_of_beat limits beat }
+{
+    match beat {
+        Beat::One(_) => 1,
+        Beat::Rounds(rounds) => u64::from(rounds) * u64::from(limits.threads),
+    }
+}
