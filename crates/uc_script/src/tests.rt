@@ -15,7 +15,7 @@ fn a_text_states_commands_with_their_schedules(rt: HostRuntime) -> Result<(), Fa
     assert_eq!(rt; script.pool(), 3);
     assert_eq!(rt; script.patience(), 4_294_967_295);
     let commands = script.commands();
-    assert_eq!(rt; commands.len(), 10);
+    assert!(rt; commands.len() == 10);
     assert!(rt; matches!(&commands[0], Command::Boot(names) if names.as_slice().is_empty()));
     assert!(rt; matches!(&commands[1], Command::Boot(names) if names.as_slice().len() == 2));
     assert!(rt; matches!(&commands[2], Command::Online(1)));
@@ -24,16 +24,22 @@ fn a_text_states_commands_with_their_schedules(rt: HostRuntime) -> Result<(), Fa
     assert!(rt; matches!(&commands[5], Command::Resume));
     assert!(rt; matches!(&commands[6], Command::Refuse(0)));
     assert!(rt; matches!(&commands[7], Command::Accept(0)));
-    let Command::Load {
-        force,
-        names,
-        beats,
-    } = &commands[8]
-    else {
+    assert!(rt; matches!(&commands[8], Command::Load { force: false, .. }));
+    assert!(rt; matches!(&commands[9], Command::Load { force: true, .. }));
+    Ok(())
+}
+
+#[test]
+fn a_load_has_names_and_a_schedule(rt: HostRuntime) -> Result<(), Fail> {
+    let script = script_of(rt.alloc(), EACH)?;
+    let Some(Command::Load { names, beats, .. }) = script.commands().get(8) else {
         return Err(Fail::from("no load"));
     };
-    assert!(rt; !*force);
-    assert_eq!(rt; names.as_slice()[0].as_str(), "a.bin");
+    assert_eq!(rt; names.as_slice().len(), 1);
+    assert_eq!(rt;
+        names.as_slice().first().map(|name| name.as_str()),
+        Some("a.bin")
+    );
     let schedule = [
         Beat::One(Event::Step(0)),
         Beat::One(Event::Timeout(1)),
@@ -42,7 +48,6 @@ fn a_text_states_commands_with_their_schedules(rt: HostRuntime) -> Result<(), Fa
         Beat::Rounds(65_535),
     ];
     assert_eq!(rt; beats.as_slice(), schedule.as_slice());
-    assert!(rt; matches!(&commands[9], Command::Load { force: true, .. }));
     Ok(())
 }
 
