@@ -5,3 +5,4 @@ pub mod Revisions
 pub mod Over
 pub mod Searches
 pub mod Shown
+pub mod Plays

@@ -1,5 +1,5 @@
 -- A search for an unfinished thread, one thread at a time.
-use Rattle.std.proofs.Common.{◌≡◌, ℕ, suc, ◌+◌, ◌-◌, ◌<◌, ◌≤◌, Bool, true, false, not, Some, None, refl, ap, sym, ◌∙◌, arith}
+use Rattle.std.proofs.Common.{◌≡◌, ℕ, suc, ◌+◌, ◌-◌, ◌<◌, ◌≤◌, Bool, true, false, not, Some, None, refl, ap, arith}
 use Rattle.std.specs.List.{find, range_with_len}
 use Rattle.rendezvous_steps.specs.declared.operations.Word.{Word}
 use Rattle.rendezvous_steps.specs.Plan.{Plan}

@@ -1,5 +1,5 @@
 -- What the state that is shown says of ends and of the decision.
-use Rattle.std.proofs.Common.{◌≡◌, ℕ, ◌+◌, ◌-◌, ◌==◌, ◌≤◌, ◌&&◌, ◌||◌, Bool, true, false, not, if◌then◌else◌, nat_le, refl, ap, sym, ◌∙◌, arith}
+use Rattle.std.proofs.Common.{◌≡◌, ℕ, ◌==◌, ◌&&◌, ◌||◌, Bool, true, false, not, nat_le, refl, ap, sym, arith}
 use Rattle.std.proofs.Math.Path.{fun_ext}
 use Rattle.std.proofs.lemmas.Bool.Decides.{nat_tests}
 use Rattle.std.specs.List.{find}
@@ -12,7 +12,7 @@ use Rattle.rendezvous_steps.specs.Events.{Running, shows_finished, steps}
 use Rattle.rendezvous_model.specs.Round.{is_unfinished}
 use Rattle.rendezvous_model.specs.Outcome.{decide_of}
 use Rattle.rendezvous_rule.specs.Shown.{place_before_end, place_of, stage_of, shown_by}
-use Rattle.ctl_core.specs.Moments.{unfinished_from, is_poll, is_ready, ready_from}
+use Rattle.ctl_core.specs.Moments.{unfinished_from, is_poll, ready_from}
 use Rattle.ctl_core.specs.Cores.{lowest_unfinished, lowest_ready}
 
 -- what a decision's word is by the stage

@@ -2,3 +2,4 @@ pub mod Outcomes
 pub mod Runs
 pub mod Moments
 pub mod Cores
+pub mod Playing

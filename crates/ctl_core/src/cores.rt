@@ -47,6 +47,13 @@ impl<'a> Core<'a> {
         })
     }
 
+    /// How many threads the plan has.
+    pub fn threads(&self) -> u16
+        ensures { result ≡ (plan_in self.now).threads }
+    {
+        self.plan.threads
+    }
+
     /// Does one event, as the definition says. It takes no memory.
     pub fn event(&mut self, event: Event) -> Item
         requires { thread_of event < (plan_in self.old).threads }

@@ -11,9 +11,11 @@ mod looks;
 mod moments;
 mod outcomes;
 mod runs;
+mod schedules;
 
 pub use cores::Core;
 pub use ctl_words::Plan;
 pub use outcomes::Outcome;
 pub use rendezvous_steps::{Beat, End, Event, Item, ThreadResult, What};
 pub use runs::{Rendezvous, RunAnswer};
+pub use schedules::Scheduled;

@@ -4,13 +4,15 @@ ghost use Rattle.std.specs.Prelude.{◌≡◌, ◌≤◌, ℕ, Bool, List, All};
 ghost use Rattle.rendezvous_rule.specs.Runs.{RunOf, BeatInRange, AlwaysRuns, RanGrows};
 ghost use Rattle.ctl_words.specs.Plans.{plan_of, IsSound};
 ghost use Rattle.item_text.specs.Items.{item_line};
+ghost use Rattle.ctl_core.specs.declared.runs.RunAnswer.TheVariants.{WriteFault as WriteFaultAnswer, NoMemory as NoMemoryAnswer};
 ghost use Rattle.ctl_core.specs.Runs.{IsRun};
 
 use crate::outcomes::Outcome;
 use ctl_words::Plan;
 use rendezvous_steps::Beat;
 use std::alloc::Global;
-use uc_io::Sink;
+use uc_bytes::NoMemory as OutOfMemory;
+use uc_io::{Sink, SinkFailed};
 
 /// Why a run came to no outcome.
 #[derive(Clone, Copy, Debug, PartialEq, Eq)]
@@ -19,6 +21,22 @@ pub enum RunAnswer {
     WriteFault,
     /// No memory was left before the first step.
     NoMemory,
+}
+
+impl From<SinkFailed> for RunAnswer {
+    ghost from_gives = { λ _ answer. answer ≡ WriteFaultAnswer };
+
+    fn from(_error: SinkFailed) -> RunAnswer {
+        RunAnswer::WriteFault
+    }
+}
+
+impl From<OutOfMemory> for RunAnswer {
+    ghost from_gives = { λ _ answer. answer ≡ NoMemoryAnswer };
+
+    fn from(_error: OutOfMemory) -> RunAnswer {
+        RunAnswer::NoMemory
+    }
 }
 
 /// Lets the threads of a plan rendezvous.

@@ -1,5 +1,4 @@
-use Rattle.std.proofs.Common.{◌≡◌, ℕ, ◌+◌, ◌-◌, ◌≤◌, Bool, true, false, not, cond, count_by, sym, ap, ◌∙◌, arith}
-use Rattle.std.specs.List.{range_with_len}
+use Rattle.std.proofs.Common.{◌≡◌, ℕ, Bool, not, cond, sym, ap, ◌∙◌, arith}
 use Rattle.rendezvous_steps.specs.Events.{shows_finished}
 use Rattle.ctl_words.specs.Lists.{word_of}
 use Rattle.ctl_words.specs.Plans.{plan_of}

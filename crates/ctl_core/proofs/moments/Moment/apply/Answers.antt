@@ -2,7 +2,7 @@ use Rattle.std.proofs.Common.{◌≡◌, ℕ, ◌<◌, ◌^◌, ap, sym, subst, 
 use Rattle.rendezvous_steps.specs.declared.operations.Word.{Word}
 use Rattle.rendezvous_steps.specs.declared.operations.Word.TheVariants.{Rev}
 use Rattle.rendezvous_steps.specs.Words.{touched, words_after}
-use Rattle.ctl_words.specs.Lists.{has_word, word_of}
+use Rattle.ctl_words.specs.Lists.{word_of}
 use Rattle.ctl_words.specs.Plans.{plan_of}
 use Rattle.ctl_core.specs.Moments.{State, Fits, owner, unfinished_in}
 use Rattle.ctl_core.proofs.Counting.{unfinished_stays}

@@ -3,10 +3,10 @@ use Rattle.rendezvous_steps.specs.declared.operations.Word.{Word}
 use Rattle.rendezvous_steps.specs.declared.operations.Word.TheVariants.{Rev}
 use Rattle.rendezvous_steps.specs.Words.{touched, words_after}
 use Rattle.rendezvous_steps.specs.Events.{shows_finished}
-use Rattle.ctl_words.specs.Lists.{has_word, word_of}
+use Rattle.ctl_words.specs.Lists.{word_of}
 use Rattle.ctl_words.specs.Places.{is_word}
 use Rattle.ctl_words.specs.Plans.{plan_of}
-use Rattle.ctl_core.specs.Moments.{State, Fits, owner, unfinished_in}
+use Rattle.ctl_core.specs.Moments.{State, Fits, unfinished_in}
 use Rattle.ctl_core.proofs.Counting.{owner_below, unfinished_changes, Recount, recount-room, recount-some, recount}
 use Rattle.ctl_core.proofs.Changes.{Fits-applied}
 use Rattle.ctl_core.proofs.moments.Moment.apply_of.Goals as goal

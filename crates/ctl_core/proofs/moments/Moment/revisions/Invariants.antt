@@ -1,8 +1,6 @@
 use Rattle.std.proofs.Common.{◌≡◌, map}
 use Rattle.std.specs.List.{range_with_len}
 use Rattle.rendezvous_steps.specs.declared.operations.Word.TheVariants.{Rev}
-use Rattle.ctl_words.specs.Plans.{plan_of}
-use Rattle.ctl_words.specs.Lists.{word_of}
 use Rattle.ctl_core.specs.Moments.{running_of}
 use Rattle.ctl_core.proofs.moments.Moment.revisions.Given as goal
 

@@ -1,0 +1,114 @@
+//! A rendezvous over a schedule, with a line for each item.
+
+ghost use Rattle.std.specs.Prelude.{◌≡◌, ◌<◌, ◌≤◌, ◌-◌, All, [], ◌∷◌, map};
+ghost use Rattle.std.specs.List.{range_with_len};
+ghost use Rattle.rendezvous_steps.specs.Plan.{threads_from};
+ghost use Rattle.rendezvous_steps.specs.declared.items.Event.TheVariants.{Step as StepOf};
+ghost use Rattle.rendezvous_model.specs.RoundStep.{thread_of};
+ghost use Rattle.rendezvous_rule.specs.Ran.{events_of, repeated};
+ghost use Rattle.rendezvous_rule.specs.Runs.{BeatInRange};
+ghost use Rattle.ctl_words.specs.Plans.{plan_of, IsSound};
+ghost use Rattle.ctl_core.specs.Cores.{plan_in, moment_in};
+ghost use Rattle.ctl_core.specs.Playing.{Plays, PlayedTo};
+
+use crate::cores::Core;
+use crate::item_lines::item_line;
+use crate::outcomes::Outcome;
+use crate::runs::RunAnswer;
+use ctl_words::Plan;
+use rendezvous_steps::{Beat, Event};
+use std::alloc::Global;
+use uc_io::{Sink, SinkFailed};
+
+/// Plays schedules: the events of the beats in order, each item by a line in one write, up to the first moment in which
+/// no thread is unfinished. After the first step it takes no memory.
+#[derive(Clone, Copy, Debug)]
+pub struct Scheduled;
+
+impl Scheduled {
+    pub fn new() -> Scheduled {
+        Scheduled
+    }
+
+    /// Plays a whole schedule. After a write fault whole lines and a front of the next one were written.
+    pub fn play<S: Sink>(
+        &mut self,
+        alloc: Global,
+        plan: &Plan,
+        beats: &[Beat],
+        out: &mut S,
+    ) -> Result<Outcome, RunAnswer>
+        requires sound { IsSound plan.now }
+        requires in_range { All (BeatInRange plan.now.threads) beats.now }
+        ensures played { PlayedTo S.stands S.faults (plan_of plan.now) beats.now out.old out.new result }
+        ensures later { S.faults out.old ≤ S.faults out.new }
+    {
+        let mut core = Core::new(alloc, plan)?;
+        play_beats(&mut core, beats, out)?;
+        Ok(core.outcome())
+    }
+}
+
+/// Plays beats, as far as some thread is unfinished.
+fn play_beats<S: Sink>(core: &mut Core<'_>, beats: &[Beat], out: &mut S) -> Result<(), SinkFailed>
+    requires { All (BeatInRange (plan_in core.old).threads) beats.now }
+    ensures plays { Plays S.stands S.faults (plan_in core.old) (moment_in core.old) (moment_in core.new) (events_of (plan_in core.old) beats.now) out.old out.new result }
+    ensures plan { plan_in core.new ≡ plan_in core.old }
+{
+    for beat in beats {
+        if core.is_over() {
+            return Ok(());
+        }
+        play_beat(core, *beat, out)?;
+    }
+    Ok(())
+}
+
+fn play_beat<S: Sink>(core: &mut Core<'_>, beat: Beat, out: &mut S) -> Result<(), SinkFailed>
+    requires { BeatInRange (plan_in core.old).threads beat }
+    ensures plays { Plays S.stands S.faults (plan_in core.old) (moment_in core.old) (moment_in core.new) (events_of (plan_in core.old) (beat ∷ [])) out.old out.new result }
+    ensures plan { plan_in core.new ≡ plan_in core.old }
+{
+    match beat {
+        Beat::One(event) => play_event(core, event, out),
+        Beat::Rounds(count) => play_rounds(core, count, out),
+    }
+}
+
+/// Plays so many rounds.
+fn play_rounds<S: Sink>(core: &mut Core<'_>, count: u16, out: &mut S) -> Result<(), SinkFailed>
+    ensures plays { Plays S.stands S.faults (plan_in core.old) (moment_in core.old) (moment_in core.new) (repeated count (map StepOf (threads_from (plan_in core.old) 0)) []) out.old out.new result }
+    ensures plan { plan_in core.new ≡ plan_in core.old }
+{
+    for _round in 0..count {
+        if core.is_over() {
+            return Ok(());
+        }
+        play_round(core, out)?;
+    }
+    Ok(())
+}
+
+/// Plays a step of each thread in ascending order.
+fn play_round<S: Sink>(core: &mut Core<'_>, out: &mut S) -> Result<(), SinkFailed>
+    ensures plays { Plays S.stands S.faults (plan_in core.old) (moment_in core.old) (moment_in core.new) (map StepOf (threads_from (plan_in core.old) 0)) out.old out.new result }
+    ensures plan { plan_in core.new ≡ plan_in core.old }
+{
+    for thread in 0..core.threads() {
+        play_event(core, Event::Step(thread), out)?;
+    }
+    Ok(())
+}
+
+/// Plays one event, if some thread is unfinished.
+fn play_event<S: Sink>(core: &mut Core<'_>, event: Event, out: &mut S) -> Result<(), SinkFailed>
+    requires { thread_of event < (plan_in core.old).threads }
+    ensures plays { Plays S.stands S.faults (plan_in core.old) (moment_in core.old) (moment_in core.new) (event ∷ []) out.old out.new result }
+    ensures plan { plan_in core.new ≡ plan_in core.old }
+{
+    if core.is_over() {
+        return Ok(());
+    }
+    let item = core.event(event);
+    out.write(item_line(&item).as_slice())
+}
