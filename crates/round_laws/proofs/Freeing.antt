@@ -99,11 +99,11 @@ result_back None refuses = refl
 result_back (Some o) true = refl
 result_back (Some o) false = refl
 
-report_back : (plan : Plan) (g mine : ℕ) → mine ≡ number_of (report_of plan g) → result_of mine ≡ report_of plan g
+pub report_back : (plan : Plan) (g mine : ℕ) → mine ≡ number_of (report_of plan g) → result_of mine ≡ report_of plan g
 unfolding report_of
 report_back plan g mine e = ap result_of e ∙ result_back (plan.offer g) (plan.refuse g)
 
-unfreed : (place : Place) (p z : Bool) → p ≡ false → z ≡ false → freed_seen place p z ≡ false
+pub unfreed : (place : Place) (p z : Bool) → p ≡ false → z ≡ false → freed_seen place p z ≡ false
 unfreed Out p z e f = e
 unfreed In p z e f = rw (e, f) refl
 unfreed (Left x) p z e f = rw (e, f) refl
@@ -111,7 +111,7 @@ unfreed Halted p z e f = refl
 unfreed Withdrawn p z e f = e
 unfreed Absent p z e f = e
 
-placed : (place x : Place) (p z : Bool) → place_seen place z ≡ x → z ≡ false → freed_seen place p z ≡ freed_seen x p z
+pub placed : (place x : Place) (p z : Bool) → place_seen place z ≡ x → z ≡ false → freed_seen place p z ≡ freed_seen x p z
 placed place x p z e f = ap (λ y. freed_seen y p z) (sym (unsettled_place place z f) ∙ e)
   where
     unsettled_place : (place : Place) (z : Bool) → z ≡ false → place_seen place z ≡ place

@@ -8,3 +8,5 @@ pub mod Inside
 pub mod Freeing
 pub mod Groups
 pub mod Writing
+pub mod Reading
+pub mod Reporting
