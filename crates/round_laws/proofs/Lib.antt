@@ -10,3 +10,5 @@ pub mod Groups
 pub mod Writing
 pub mod Reading
 pub mod Reporting
+pub mod Arrivals
+pub mod Arriving
