@@ -12,3 +12,6 @@ pub mod Reading
 pub mod Reporting
 pub mod Arrivals
 pub mod Arriving
+pub mod Standing
+pub mod Counting
+pub mod OfflineWaiting
