@@ -1,14 +1,14 @@
 -- Reading gives what the text states, or its first fault, and nothing else.
-use Rattle.std.proofs.Common.{◌≡◌, ℕ, Bool, true, false, cond, List, [], ◌∷◌, ◌++◌, filter, Result, Ok, Err, refl, sym, ap, subst, ◌∙◌, ◌⊎◌, inl, inr}
+use Rattle.std.proofs.Common.{◌≡◌, ℕ, Bool, true, false, cond, List, [], ◌∷◌, ◌++◌, Result, Ok, Err, refl, sym, ap, subst, ◌∙◌, ◌⊎◌, inl, inr}
 use Rattle.std.specs.Prelude.{MatchResult, IfOk, IfErr}
-use Rattle.uc_text.specs.Lines.{numbered_lines}
+use Rattle.uc_text.specs.Lines.{counted_lines}
 use Rattle.uc_bytes.specs.declared.causes.Vendor.{Vendor}
 use Rattle.uc_topology.specs.declared.fault.TopoCause.{TopoCause}
 use Rattle.uc_topology.specs.declared.fault.TopoCause.TheVariants.{Word, EmptyCore}
 use Rattle.uc_topology.specs.declared.fault.TopoFault.{TopoFault}
 use Rattle.uc_topology.specs.declared.forms.Version.{Version}
 use Rattle.uc_topology.specs.Stated.{Stated, Machine}
-use Rattle.uc_topology.specs.Grammar.{counts, version_of, vendor_of, after_line, after_lines, at_line, ◌>>=◌, nothing, is_full, full, read_body, read_vendor, read_head, reading}
+use Rattle.uc_topology.specs.Grammar.{version_of, vendor_of, after_line, after_lines, at_line, ◌>>=◌, nothing, is_full, full, read_body, read_vendor, read_head, reading}
 use Rattle.uc_topology.specs.Texts.{InTurn, FaultInTurn, EmptyAtEnd, LinesState, SecondFault, LinesFault, States, FirstFault}
 
 -- ---- results
@@ -206,19 +206,19 @@ of_fault (head ∷ rest) fault is = of_head head.0 (version_of head.1) rest faul
 
 pub states : (text : List ℕ) (machine : Machine) → reading text ≡ Ok machine → States text machine
 unfolding reading
-states text machine e = record { lines = lines_state (filter counts (numbered_lines text)) machine e }
+states text machine e = record { lines = lines_state (counted_lines text) machine e }
 
 pub faults : (text : List ℕ) (fault : TopoFault) → reading text ≡ Err fault → FirstFault text fault
 unfolding reading
-faults text fault e = record { lines = lines_fault (filter counts (numbered_lines text)) fault e }
+faults text fault e = record { lines = lines_fault (counted_lines text) fault e }
 
 reads : (text : List ℕ) (machine : Machine) → States text machine → reading text ≡ Ok machine
 unfolding reading
-reads text machine s = of_states (filter counts (numbered_lines text)) machine s.lines
+reads text machine s = of_states (counted_lines text) machine s.lines
 
 fails : (text : List ℕ) (fault : TopoFault) → FirstFault text fault → reading text ≡ Err fault
 unfolding reading
-fails text fault f = of_fault (filter counts (numbered_lines text)) fault f.lines
+fails text fault f = of_fault (counted_lines text) fault f.lines
 
 either : (text : List ℕ) (r : Result Machine TopoFault) → reading text ≡ r → ((machine : Machine) × States text machine) ⊎ ((fault : TopoFault) × FirstFault text fault)
 either text (Ok machine) e = inl (machine, states text machine e)

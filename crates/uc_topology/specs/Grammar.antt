@@ -1,7 +1,7 @@
 -- The text of a topology, versions 1 and 2, line by line, and the first fault.
-use Rattle.std.specs.Prelude.{ℕ, ◌+◌, Bool, ◌&&◌, not, nat_le, nat_lt, ◌==◌, List, [], ◌∷◌, ◌++◌, length, filter, slice_index, codes, Option, None, Some, Result, Ok, Err, if◌then◌else◌}
+use Rattle.std.specs.Prelude.{ℕ, ◌+◌, Bool, ◌&&◌, not, nat_le, nat_lt, ◌==◌, List, [], ◌∷◌, ◌++◌, length, slice_index, codes, Option, None, Some, Result, Ok, Err, if◌then◌else◌}
 use Rattle.std.specs.List.{list_all, range_with_len}
-use Rattle.uc_text.specs.Lines.{numbered_lines, words_of}
+use Rattle.uc_text.specs.Lines.{counted_lines, words_of}
 use Rattle.uc_bytes.specs.declared.causes.Vendor.{Vendor}
 use Rattle.uc_bytes.specs.declared.causes.Vendor.TheVariants.{Intel, Amd}
 use Rattle.uc_topology.specs.declared.fault.TopoCause.{TopoCause}
@@ -89,10 +89,6 @@ unfoldable pub after_lines : Version → Stated → List (ℕ × List ℕ) → R
 after_lines version before [] = Ok before
 after_lines version before (line ∷ lines) = at_line line.0 (after_line version before line.1) >>= λ stated. after_lines version stated lines
 
--- lines with words that are no comments
-abbrev pub counts : ℕ × List ℕ → Bool
-counts line = nat_lt 0 (length (words_of line.1)) && not (slice_index line.1 0 == 35)
-
 abbrev pub version_of : List ℕ → Result Version TopoCause
 version_of line =
     if line_has (codes "ucode-topology 1") line then Ok Cores
@@ -130,4 +126,4 @@ read_head (line ∷ lines) = at_line line.0 (version_of line.1) >>= λ version. 
 
 -- what a text states, or its first fault
 unfoldable pub reading : List ℕ → Result Machine TopoFault
-reading text = read_head (filter counts (numbered_lines text))
+reading text = read_head (counted_lines text)

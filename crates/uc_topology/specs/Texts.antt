@@ -1,11 +1,11 @@
 -- What a text states, as a relation between the whole text and the machine, and where it first goes wrong.
-use Rattle.std.specs.Prelude.{◌≡◌, ℕ, true, false, List, [], ◌∷◌, ◌++◌, filter, Ok, Err, ◌⊎◌, MatchResult}
-use Rattle.uc_text.specs.Lines.{numbered_lines}
+use Rattle.std.specs.Prelude.{◌≡◌, ℕ, true, false, List, [], ◌∷◌, ◌++◌, Ok, Err, ◌⊎◌, MatchResult}
+use Rattle.uc_text.specs.Lines.{counted_lines}
 use Rattle.uc_topology.specs.declared.fault.TopoCause.TheVariants.{Head, Word, EmptyCore}
 use Rattle.uc_topology.specs.declared.fault.TopoFault.{TopoFault}
 use Rattle.uc_topology.specs.declared.forms.Version.{Version}
 use Rattle.uc_topology.specs.Stated.{Stated, Machine}
-use Rattle.uc_topology.specs.Grammar.{counts, version_of, vendor_of, after_line, nothing, is_full}
+use Rattle.uc_topology.specs.Grammar.{version_of, vendor_of, after_line, nothing, is_full}
 
 -- lines of which each states its core or thread after those before it
 abbrev pub InTurn : Version → Stated → List (ℕ × List ℕ) → Stated → Type 0
@@ -48,8 +48,8 @@ LinesFault (head ∷ rest) fault = MatchResult (version_of head.1) (λ version. 
 
 -- the text states the machine
 pub record States (text : List ℕ) (machine : Machine) : Type 0 where
-  pub lines : LinesState (filter counts (numbered_lines text)) machine
+  pub lines : LinesState (counted_lines text) machine
 
 -- the text states nothing, and this is its first fault
 pub record FirstFault (text : List ℕ) (fault : TopoFault) : Type 0 where
-  pub lines : LinesFault (filter counts (numbered_lines text)) fault
+  pub lines : LinesFault (counted_lines text) fault

@@ -1,18 +1,18 @@
-ghost use Rattle.std.specs.Prelude.{◌≡◌, ◌<◌, ◌≤◌, ◌∷◌, slice_index, [], length, filter, MatchResult, MatchOption, IfOk, IfErr, Ok, Err, codes, ℕ, List, ◌⊎◌};
+ghost use Rattle.std.specs.Prelude.{◌≡◌, ◌<◌, ◌≤◌, slice_index, length, filter, MatchResult, MatchOption, IfOk, IfErr, Ok, Err, codes, ℕ, List, ◌⊎◌};
 ghost use Rattle.uc_topology.specs.Stated.{Machine};
 ghost use Rattle.uc_topology.specs.Texts.{States, FirstFault};
 ghost use Rattle.uc_topology.specs.declared.fault.TopoFault.{TopoFault};
-ghost use Rattle.uc_text.specs.Lines.{words_of};
+ghost use Rattle.uc_text.specs.Lines.{counts, words_of};
 ghost use Rattle.uc_topology.specs.Forms.{numbers_of};
 ghost use Rattle.uc_topology.specs.declared.fault.TopoCause.TheVariants.{Head, Word};
-ghost use Rattle.uc_topology.specs.Grammar.{counts, facts_from, version_of, vendor_of, core_form, core_from, thread_from, after_line, read_body, reading};
+ghost use Rattle.uc_topology.specs.Grammar.{facts_from, version_of, vendor_of, core_form, core_from, thread_from, after_line, read_body, reading};
 
 use crate::fault::{TopoCause, TopoFault};
 use crate::forms::{Version, has_form, numbers_in};
 use crate::tables::{GroupFacts, Tables};
 use crate::topology::Topology;
 use uc_bytes::Vendor;
-use uc_text::{Line, Lines, Words};
+use uc_text::Lines;
 
 /// The topology that a text states. It takes no memory. Lines without words, and those that begin with `#`, are
 /// skipped. The first two lines name the version and the vendor, as `ucode-topology 1` and `vendor intel`; each
@@ -40,13 +40,13 @@ fn read(bytes: &[u8]) -> Result<Topology, TopoFault>
     ensures { MatchResult result (λ topology. reading bytes.now ≡ Ok topology) (λ fault. reading bytes.now ≡ Err fault) }
 {
     let mut lines = Lines::new(bytes);
-    let Some(head) = next_line(&mut lines) else {
+    let Some(head) = lines.next_counted() else {
         return Err(fault_at(0, TopoCause::Head));
     };
     let Some(version) = version_of(head.text) else {
         return Err(fault_at(head.number, TopoCause::Head));
     };
-    let Some(second) = next_line(&mut lines) else {
+    let Some(second) = lines.next_counted() else {
         return Err(fault_at(0, TopoCause::Word));
     };
     let Some(vendor) = vendor_of(second.text) else {
@@ -61,7 +61,7 @@ fn read_body(version: Version, vendor: Vendor, lines: Lines) -> Result<Topology,
 {
     let mut lines = lines;
     let mut tables = Tables::new();
-    while let Some(line) = next_line(&mut lines) {
+    while let Some(line) = lines.next_counted() {
         match add_line(version, line.text, &mut tables) {
             Ok(()) => {}
             Err(cause) => return Err(fault_at(line.number, cause)),
@@ -71,24 +71,6 @@ fn read_body(version: Version, vendor: Vendor, lines: Lines) -> Result<Topology,
         Some(topology) => Ok(topology),
         None => Err(fault_at(0, TopoCause::EmptyCore)),
     }
-}
-
-/// The next line that is not skipped.
-fn next_line<'a>(lines: &mut Lines<'a>) -> Option<Line<'a>>
-    ensures { MatchOption result ((filter counts lines.old ≡ []) × (filter counts lines.new ≡ [])) (λ line. filter counts lines.old ≡ (line.number, line.text.now) ∷ filter counts lines.new) }
-{
-    while let Some(line) = lines.next() {
-        if counts(&line) {
-            return Some(line);
-        }
-    }
-    None
-}
-
-fn counts(line: &Line) -> bool
-    ensures { result ≡ counts (line.now.number, line.now.text.now) }
-{
-    Words::new(line.text).next().is_some() && line.text.first() != Some(&b'#')
 }
 
 fn fault_at(line: u32, cause: TopoCause) -> TopoFault

@@ -1,5 +1,6 @@
 use Rattle.std.proofs.Common.{◌≡◌, [], length, filter}
-use Rattle.uc_topology.specs.Grammar.{counts, after_lines}
+use Rattle.uc_text.specs.Lines.{counts}
+use Rattle.uc_topology.specs.Grammar.{after_lines}
 use Rattle.uc_topology.proofs.reading.read_body.Given as goal
 
 -- the lines that are left, after what is stated, state what all lines do
