@@ -15,3 +15,5 @@ pub mod Arriving
 pub mod Standing
 pub mod Counting
 pub mod OfflineWaiting
+pub mod Siblings
+pub mod Halting

@@ -140,7 +140,29 @@ only_settles v t w x e =
 
 -- What the state is then.
 
--- a thread goes to another place, where it is freed as it was
+-- a thread goes to another place, where it is freed or not as it was
+pub sees_place_here :
+    (plan : Plan) (v : Views) (stage : Stage) (latched : ℕ → Bool) (t : ℕ) (x : Place) →
+    freed_seen x (v.frees (plan.primary (plan.group t)) t) (v.settles 0 t)
+    ≡ freed_seen (v.place t) (v.frees (plan.primary (plan.group t)) t) (v.settles 0 t) →
+    seen plan (record v { place = put v.place t x }) stage latched
+    ≡ record (seen plan v stage latched) {
+      place = put (seen plan v stage latched).place t (place_seen x (v.settles 0 t));
+    }
+sees_place_here plan v stage latched t x same =
+    λ i. record (seen plan v stage latched) {
+      place = put_map (λ u p. place_seen p (v.settles 0 u)) v.place t x i;
+      freed =
+          code_kept
+          (λ u p. freed_seen p (v.frees (plan.primary (plan.group u)) u) (v.settles 0 u))
+          v.place
+          t
+          x
+          same
+          i;
+    }
+
+-- and one where every thread is freed as it was at the other
 pub sees_place :
     (plan : Plan) (v : Views) (stage : Stage) (latched : ℕ → Bool) (t : ℕ) (x : Place) →
     ((p z : Bool) → freed_seen x p z ≡ freed_seen (v.place t) p z) →
@@ -148,12 +170,7 @@ pub sees_place :
     ≡ record (seen plan v stage latched) {
       place = put (seen plan v stage latched).place t (place_seen x (v.settles 0 t));
     }
-sees_place plan v stage latched t x same =
-    λ i. record (seen plan v stage latched) {
-      place = put_map (λ u p. place_seen p (v.settles 0 u)) v.place t x i;
-      freed =
-          code_kept (λ u p. freed_seen p (v.frees (plan.primary (plan.group u)) u) (v.settles 0 u)) v.place t x (same _ _) i;
-    }
+sees_place plan v stage latched t x same = sees_place_here plan v stage latched t x (same _ _)
 
 pub sees_kicks :
     (plan : Plan) (v : Views) (stage : Stage) (latched : ℕ → Bool) (set : ℕ → Bool) →
