@@ -17,3 +17,4 @@ pub mod Counting
 pub mod OfflineWaiting
 pub mod Siblings
 pub mod Halting
+pub mod Withdrawing

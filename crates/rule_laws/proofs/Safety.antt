@@ -129,7 +129,7 @@ held_by plan words locals first stage u KindAbsent sound padded rule going write
 
 -- Before a go, and after a drop.
 
-waits_or_not : (w : GroupPlace) → (w ≡ Waiting) ⊎ (w ≢ Waiting)
+pub waits_or_not : (w : GroupPlace) → (w ≡ Waiting) ⊎ (w ≢ Waiting)
 waits_or_not Waiting = inl refl
 waits_or_not Writing = inr (λ e. cc)
 waits_or_not Written = inr (λ e. cc)
