@@ -1,12 +1,12 @@
 -- What a list of runs is after blocks were given back to it.
-use Rattle.std.proofs.Common.{◌≡◌, ℕ, zero, suc, ◌+◌, ◌-◌, ◌<◌, ◌≤◌, Bool, true, false, ◌||◌, nat_lt, nat_le, List, [], ◌∷◌, ◌++◌, length, get_or, take, drop, refl, sym, ap, ◌∙◌, inl, inr, arith}
-use Rattle.std.specs.List.{insert, list_any, position_or_len}
+use Rattle.std.proofs.Common.{◌≡◌, ℕ, zero, suc, ◌+◌, ◌-◌, ◌<◌, ◌≤◌, true, false, ◌||◌, nat_lt, List, [], ◌∷◌, refl, sym, ap, ◌∙◌, inl, inr, arith}
+use Rattle.std.specs.List.{insert, position_or_len}
 use Rattle.std.proofs.lemmas.Bool.{false≢true, cases_eq, cases_lt, eq-eqb, ne_eqb}
 use Rattle.std.proofs.lemmas.Bool.Decides.{nat_tests}
 use Rattle.patch_pool.specs.declared.runs.Run.{Run}
 use Rattle.patch_pool.specs.Free.{is_within}
 use Rattle.patch_pool.specs.Runs.{end_of, in_run, is_in, LiesIn, AreSpaced, joined, join_first, join_at, settle}
-use Rattle.patch_pool.proofs.Spaced.{within, below_within, past_within, spaced_from, in_join_at}
+use Rattle.patch_pool.proofs.Spaced.{within, spaced_from, in_join_at}
 
 -- the place of a run among others that ascend
 abbrev pub place : List Run → ℕ → ℕ

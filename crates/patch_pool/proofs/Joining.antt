@@ -1,10 +1,10 @@
 -- What joining a run with the next leaves of a list, by indices.
-use Rattle.std.proofs.Common.{◌≡◌, ◌≢◌, ℕ, zero, suc, ◌+◌, ◌<◌, ◌≤◌, nat_eq, List, [], ◌∷◌, ◌++◌, length, take, drop, refl, sym, ap, ◌∙◌, subst, inl, inr, arith}
+use Rattle.std.proofs.Common.{◌≡◌, ◌≢◌, ℕ, zero, suc, ◌+◌, ◌<◌, ◌≤◌, List, [], ◌∷◌, length, refl, sym, ap, ◌∙◌, subst, inl, inr, arith}
 use Rattle.std.specs.List.{remove, slice_set, slice_index_or, insert}
 use Rattle.std.proofs.lemmas.Bool.{cases_eq, eq-eqb, ne_eqb}
 use Rattle.std.proofs.lemmas.List.{get_or_read}
 use Rattle.patch_pool.specs.declared.runs.Run.{Run}
-use Rattle.patch_pool.specs.Runs.{end_of, LiesIn, AreSpaced, AllEnd, no_run, run_at, joined, join_first, join_at}
+use Rattle.patch_pool.specs.Runs.{end_of, AreSpaced, AllEnd, no_run, run_at, joined, join_first, join_at}
 
 -- two runs that touch
 pub join_touching : (runs : List Run) (at : ℕ) → suc at < length runs → end_of (run_at runs at) ≡ (run_at runs (suc at)).first

@@ -5,3 +5,4 @@ pub mod Lowest
 pub mod Taking
 pub mod Memory
 pub mod Pooling
+pub mod Marking

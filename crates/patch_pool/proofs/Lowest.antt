@@ -1,13 +1,13 @@
 -- Which run of a list is the lowest that is long enough, and how long the longest is.
-use Rattle.std.proofs.Common.{◌≡◌, ℕ, zero, suc, ◌+◌, ◌-◌, ◌<◌, ◌≤◌, max, ◌⊎◌, Bool, true, false, ◌||◌, not, nat_lt, nat_le, List, [], ◌∷◌, length, Option, Some, None, MatchOption, is_some, refl, sym, ap, ◌∙◌, inl, inr, arith}
-use Rattle.std.specs.List.{list_all, find, position, position_or_len, fold, range_with_len}
+use Rattle.std.proofs.Common.{◌≡◌, ℕ, zero, suc, ◌+◌, ◌-◌, ◌<◌, ◌≤◌, max, ◌⊎◌, Bool, true, false, not, nat_le, List, [], ◌∷◌, length, Option, Some, None, MatchOption, is_some, refl, sym, ap, ◌∙◌, inl, inr, arith}
+use Rattle.std.specs.List.{list_all, position, position_or_len, fold, range_with_len}
 use Rattle.std.proofs.lemmas.Bool.{false≢true, cases_eq, cases_lt, lt-ltb, le-ltb}
 use Rattle.std.proofs.lemmas.List.Sums.{prefix_len-le-length}
 use Rattle.std.proofs.lemmas.Bool.Decides.{nat_tests}
-use Rattle.region_steps.proofs.Rows.{all_pass, each_passes, not_all, all_alike, found_none, found, IsFirst, first_found}
+use Rattle.region_steps.proofs.Rows.{all_pass, not_all, all_alike, found_none, found}
 use Rattle.patch_pool.specs.declared.runs.Run.{Run}
-use Rattle.patch_pool.specs.Free.{is_within, lowest_of, IsLongest}
-use Rattle.patch_pool.specs.Runs.{end_of, in_run, is_in, LiesIn, AreSpaced, run_at, IsFit}
+use Rattle.patch_pool.specs.Free.{lowest_of, IsLongest}
+use Rattle.patch_pool.specs.Runs.{end_of, is_in, AreSpaced, run_at, IsFit}
 use Rattle.patch_pool.proofs.Spaced.{within, below_within, past_within, in_below}
 
 -- so many free blocks, from one on

@@ -1,7 +1,7 @@
 -- What the free blocks of a region say of its patches, and the other way round.
-use Rattle.std.proofs.Common.{◌≡◌, ℕ, ◌+◌, ◌-◌, ◌/◌, ◌<◌, ◌≤◌, ◌↔◌, Bool, true, false, ◌&&◌, ◌||◌, not, nat_lt, nat_le, List, length, Option, Some, None, is_some, refl, sym, ap, ◌∙◌, subst, inl, inr, arith}
-use Rattle.std.proofs.lemmas.Bool.{false≢true, cases_lt, cases_Bool}
-use Rattle.std.specs.List.{list_all, find, range_with_len}
+use Rattle.std.proofs.Common.{◌≡◌, ℕ, ◌+◌, ◌-◌, ◌<◌, ◌≤◌, ◌↔◌, Bool, true, false, ◌&&◌, ◌||◌, not, List, length, Option, Some, None, is_some, refl, sym, ap, ◌∙◌, subst, arith}
+use Rattle.std.proofs.lemmas.Bool.{false≢true}
+use Rattle.std.specs.List.{list_all, range_with_len}
 use Rattle.region_steps.specs.Region.{Patches, no_patches, begins_at, blocks_of, width, covers, is_covered, is_free_run, lowest_run, IsLongestFree, put_at, take_out, Stands}
 use Rattle.region_steps.proofs.Rows.{all_alike, found_alike}
 use Rattle.region_steps.proofs.Covered.{covers_means, covered_by, not_covered, begins_no_patch}

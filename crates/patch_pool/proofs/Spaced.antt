@@ -1,12 +1,9 @@
 -- What lists of runs have in them, and what joining two runs leaves.
-use Rattle.std.proofs.Common.{◌≡◌, ℕ, zero, suc, ◌+◌, ◌*◌, ◌<◌, ◌≤◌, Bool, true, false, ◌&&◌, ◌||◌, not, nat_eq, nat_lt, nat_le, List, [], ◌∷◌, ◌++◌, length, get_or, take, drop, refl, sym, ap, ◌∙◌, subst, inl, inr, arith}
-use Rattle.std.specs.List.{list_any, list_all, range_with_len, insert, remove}
-use Rattle.std.proofs.lemmas.Bool.{false≢true, cases_eq, cases_lt, eq-eqb, ne_eqb, cond-true, cond-false, eqb-true, ltb-true, and_parts}
+use Rattle.std.proofs.Common.{◌≡◌, ℕ, zero, suc, ◌+◌, ◌*◌, ◌<◌, ◌≤◌, Bool, true, false, ◌||◌, List, [], ◌∷◌, length, refl, ap, arith}
 use Rattle.std.proofs.lemmas.Bool.Decides.{nat_tests}
-use Rattle.std.proofs.lemmas.List.Folds.{list_any-append, list_any_at}
 use Rattle.patch_pool.specs.declared.runs.Run.{Run}
 use Rattle.patch_pool.specs.Free.{is_within}
-use Rattle.patch_pool.specs.Runs.{end_of, in_run, is_in, LiesIn, AreSpaced, joined, join_first, join_at}
+use Rattle.patch_pool.specs.Runs.{end_of, in_run, is_in, AreSpaced, join_first, join_at}
 
 pub within : (first count block : ℕ) → first ≤ block → block < first + count → is_within first count block ≡ true
 within first count block low high = grind (arith, nat_tests)

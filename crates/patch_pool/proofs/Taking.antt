@@ -1,12 +1,12 @@
 -- What a list of runs is after blocks were taken from it.
-use Rattle.std.proofs.Common.{◌≡◌, ℕ, zero, suc, ◌+◌, ◌-◌, ◌<◌, ◌≤◌, Bool, true, false, ◌&&◌, ◌||◌, not, nat_lt, nat_le, List, [], ◌∷◌, ◌++◌, length, take, drop, refl, sym, ap, ◌∙◌, inl, inr, arith}
-use Rattle.std.specs.List.{list_any, remove, slice_set}
+use Rattle.std.proofs.Common.{◌≡◌, ℕ, zero, suc, ◌+◌, ◌-◌, ◌<◌, ◌≤◌, true, false, ◌&&◌, not, List, [], ◌∷◌, length, refl, sym, ◌∙◌, inl, inr, arith}
+use Rattle.std.specs.List.{remove, slice_set}
 use Rattle.std.proofs.lemmas.Bool.{false≢true, cases_lt, cases_Bool}
 use Rattle.std.proofs.lemmas.Bool.Decides.{nat_tests}
 use Rattle.std.proofs.lemmas.List.Folds.{list_any_at}
 use Rattle.patch_pool.specs.declared.runs.Run.{Run}
 use Rattle.patch_pool.specs.Free.{is_within}
-use Rattle.patch_pool.specs.Runs.{end_of, in_run, is_in, LiesIn, AreSpaced, run_at, no_run}
+use Rattle.patch_pool.specs.Runs.{end_of, in_run, is_in, AreSpaced, run_at, no_run}
 use Rattle.patch_pool.proofs.Spaced.{within, below_within, past_within, in_below, spaced_from}
 
 -- a block of a run is in none behind it

@@ -1,9 +1,9 @@
 -- What putting a patch and taking one out leave of the patches and of the blocks that are covered.
-use Rattle.std.proofs.Common.{◌≡◌, ◌≢◌, ℕ, ◌+◌, ◌<◌, ◌≤◌, Bool, true, false, ◌&&◌, ◌||◌, not, nat_eq, nat_lt, nat_le, List, length, Option, Some, None, cond, refl, sym, ap, ◌∙◌, subst, inl, inr, arith}
+use Rattle.std.proofs.Common.{◌≡◌, ◌≢◌, ℕ, ◌+◌, Bool, true, false, ◌&&◌, ◌||◌, not, nat_lt, nat_le, List, Option, Some, None, refl, sym, ap, ◌∙◌, subst, inl, inr, arith}
 use Rattle.std.proofs.lemmas.Bool.{false≢true, cases_eq, cases_lt, cases_Bool, eq-eqb, ne_eqb}
 use Rattle.std.proofs.lemmas.Bool.Decides.{nat_tests}
-use Rattle.region_steps.specs.Region.{Patches, blocks_of, width, covers, is_covered, is_free_run, put_at, take_out}
-use Rattle.region_steps.proofs.Covered.{covers_within, covers_below, covers_past, covers_means, covered_by, not_covered_by, not_covered, Coverer, coverer}
+use Rattle.region_steps.specs.Region.{Patches, blocks_of, width, covers, is_covered, put_at, take_out}
+use Rattle.region_steps.proofs.Covered.{covers_below, covers_past, covered_by, not_covered_by, not_covered, coverer}
 
 -- ---- by block
 
@@ -89,12 +89,12 @@ covered_out patches first block apart =
             | inr alone ↦ rw (yes', alone, covered_by patches its.first block there) refl
           ]
       | inr no' ↦ elim (cases_Bool (covers patches first block)) [
-          | inl its ↦ rw (no', its) (grind (arith, nat_tests))
-          | inr not_its ↦
-              let others : (other : ℕ) → covers patches other block ≡ false = λ other. elim (cases_eq other first) [
-                | inl same ↦ subst (λ (f : ℕ). covers patches f block ≡ false) (sym same) not_its
-                | inr apart' ↦ sym (covers_out_other patches first other block apart') ∙ not_covered_by (take_out patches first) other block no'
-              ] in
-              rw (no', not_covered patches block others) refl
-        ]
+        | inl its ↦ rw (no', its) (grind (arith, nat_tests))
+        | inr not_its ↦
+            let others : (other : ℕ) → covers patches other block ≡ false = λ other. elim (cases_eq other first) [
+              | inl same ↦ subst (λ (f : ℕ). covers patches f block ≡ false) (sym same) not_its
+              | inr apart' ↦ sym (covers_out_other patches first other block apart') ∙ not_covered_by (take_out patches first) other block no'
+            ] in
+            rw (no', not_covered patches block others) refl
+      ]
     ]

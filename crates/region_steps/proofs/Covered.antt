@@ -1,10 +1,9 @@
 -- Which blocks are covered, and how putting a patch and taking one out changes it.
-use Rattle.std.proofs.Common.{◌≡◌, ◌≢◌, ℕ, zero, suc, ◌+◌, ◌<◌, ◌≤◌, ◌⊎◌, Bool, true, false, ◌&&◌, ◌||◌, not, nat_eq, nat_lt, nat_le, List, [], ◌∷◌, length, Option, Some, None, cond, refl, sym, ap, ◌∙◌, subst, inl, inr, arith}
-use Rattle.std.specs.List.{list_any, list_all, range_with_len}
-use Rattle.std.proofs.lemmas.Bool.{false≢true, cases_eq, cases_lt, cases_Bool, eq-eqb, ne_eqb}
+use Rattle.std.proofs.Common.{◌≡◌, ℕ, ◌+◌, ◌<◌, ◌≤◌, ◌⊎◌, true, false, not, sym, ◌∙◌, inl, inr, arith}
+use Rattle.std.proofs.lemmas.Bool.{false≢true, cases_lt, cases_Bool}
 use Rattle.std.proofs.lemmas.Bool.Decides.{nat_tests}
-use Rattle.region_steps.specs.Region.{Patches, blocks_of, width, covers, is_covered, is_free_run, put_at, take_out}
-use Rattle.region_steps.proofs.Rows.{any_passes, none_passes, any_found, each_passes, all_pass}
+use Rattle.region_steps.specs.Region.{Patches, width, covers, is_covered, is_free_run}
+use Rattle.region_steps.proofs.Rows.{any_passes, none_passes, any_found, each_passes}
 
 -- ---- one patch
 
@@ -23,9 +22,9 @@ covers_means patches first block yes' =
     elim (cases_lt block first) [
       | inl low ↦ absurd (false≢true (sym (covers_below patches first block low) ∙ yes'))
       | inr le ↦ elim (cases_lt block (first + width (patches first))) [
-          | inl lt ↦ (le, lt)
-          | inr past ↦ absurd (false≢true (sym (covers_past patches first block past) ∙ yes'))
-        ]
+        | inl lt ↦ (le, lt)
+        | inr past ↦ absurd (false≢true (sym (covers_past patches first block past) ∙ yes'))
+      ]
     ]
 
 -- ---- all of them
@@ -67,12 +66,12 @@ pub apart_from_run : (patches : Patches) (needed first other : ℕ) → is_free_
 apart_from_run patches needed first other free some has =
     elim (cases_lt first (other + width (patches other))) [
       | inl lt ↦ elim (cases_lt other (first + needed)) [
-          | inl low ↦ elim (cases_lt other first) [
-              | inl before ↦ absurd (false≢true (sym (run_is_free patches needed first first free (omega arith) (omega (arith, some))) ∙ covered_by patches other first (covers_within patches other first (omega (arith, before)) lt)))
-              | inr behind ↦ absurd (false≢true (sym (run_is_free patches needed first other free behind low) ∙ covered_by patches other other (covers_within patches other other (omega arith) (omega (arith, has)))))
-            ]
-          | inr past ↦ inr past
+        | inl low ↦ elim (cases_lt other first) [
+          | inl before ↦ absurd (false≢true (sym (run_is_free patches needed first first free (omega arith) (omega (arith, some))) ∙ covered_by patches other first (covers_within patches other first (omega (arith, before)) lt)))
+          | inr behind ↦ absurd (false≢true (sym (run_is_free patches needed first other free behind low) ∙ covered_by patches other other (covers_within patches other other (omega arith) (omega (arith, has)))))
         ]
+        | inr past ↦ inr past
+      ]
       | inr le ↦ inl le
     ]
 
@@ -81,8 +80,8 @@ pub begins_no_patch : (patches : Patches) (needed first : ℕ) → is_free_run p
 begins_no_patch patches needed first free some =
     elim (cases_lt 0 (width (patches first))) [
       | inl has ↦ elim (apart_from_run patches needed first first free some has) [
-          | inl le ↦ absurd (omega (arith, le, has))
-          | inr le ↦ absurd (omega (arith, le, some))
-        ]
+        | inl le ↦ absurd (omega (arith, le, has))
+        | inr le ↦ absurd (omega (arith, le, some))
+      ]
       | inr none ↦ omega (arith, none)
     ]

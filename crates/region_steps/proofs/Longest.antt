@@ -1,9 +1,8 @@
 -- Where the lowest run of free blocks is, and what the length of the longest says of it.
-use Rattle.std.proofs.Common.{◌≡◌, ℕ, ◌+◌, ◌-◌, ◌<◌, ◌≤◌, Bool, true, false, not, Option, Some, None, is_some, refl, sym, ap, ◌∙◌, subst, inl, inr, arith}
+use Rattle.std.proofs.Common.{◌≡◌, ℕ, ◌+◌, ◌-◌, ◌<◌, ◌≤◌, true, false, not, Option, Some, None, is_some, refl, sym, ap, ◌∙◌, inl, inr, arith}
 use Rattle.std.proofs.lemmas.Bool.{false≢true, cases_lt}
-use Rattle.std.specs.List.{range_with_len, find}
 use Rattle.region_steps.specs.Region.{Patches, is_covered, is_free_run, lowest_run, IsLongestFree}
-use Rattle.region_steps.proofs.Rows.{all_pass, each_passes, IsFirst, first_found, none_found}
+use Rattle.region_steps.proofs.Rows.{all_pass, each_passes, first_found, none_found}
 
 -- a run of free blocks inside the region
 pub record IsFreeInside (patches : Patches) (blocks needed first : ℕ) : Type 0 where

@@ -1,5 +1,5 @@
 -- Tests of numbers in a row, and searches among them.
-use Rattle.std.proofs.Common.{◌≡◌, ℕ, zero, suc, ◌+◌, ◌<◌, ◌≤◌, Bool, true, false, Option, Some, None, refl, sym, ap, ◌∙◌, subst, inl, inr, arith}
+use Rattle.std.proofs.Common.{◌≡◌, ℕ, zero, suc, ◌+◌, ◌<◌, ◌≤◌, Bool, true, false, Some, None, refl, sym, ap, ◌∙◌, subst, inl, inr, arith}
 use Rattle.std.specs.List.{list_all, list_any, find, range_with_len}
 use Rattle.std.proofs.lemmas.Bool.{false≢true, cases_eq, cases_Bool, and_parts}
 use Rattle.std.proofs.lemmas.Bool.Decides.{nat_tests}
@@ -82,9 +82,9 @@ none_found test first (suc count) k e low high =
     elim (cases_Bool (test first)) [
       | inl here ↦ let e' : Some first ≡ None = rw here at e in absurd (cc)
       | inr not_here ↦ elim (cases_eq first k) [
-          | inl same ↦ subst (λ (n : ℕ). test n ≡ false) same not_here
-          | inr other ↦ none_found test (first + 1) count k (rw not_here at e) (omega (arith, low, other)) (omega (arith, high))
-        ]
+        | inl same ↦ subst (λ (n : ℕ). test n ≡ false) same not_here
+        | inr other ↦ none_found test (first + 1) count k (rw not_here at e) (omega (arith, low, other)) (omega (arith, high))
+      ]
     ]
 
 -- tests that agree on the row

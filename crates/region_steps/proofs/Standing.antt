@@ -1,9 +1,9 @@
 -- Patches stand before and after each step.
-use Rattle.std.proofs.Common.{◌≡◌, ◌≢◌, ℕ, ◌+◌, ◌<◌, ◌≤◌, Bool, true, false, List, length, Option, Some, None, refl, sym, ap, ◌∙◌, subst, inl, inr, arith}
+use Rattle.std.proofs.Common.{◌≡◌, ℕ, ◌+◌, ◌<◌, ◌≤◌, true, false, List, length, Some, None, sym, ap, ◌∙◌, subst, inl, inr, arith}
 use Rattle.std.proofs.lemmas.Bool.{false≢true, cases_eq, cases_Bool}
-use Rattle.region_steps.specs.Region.{Patches, no_patches, blocks_of, width, covers, is_covered, is_free_run, put_at, take_out, Stands}
-use Rattle.region_steps.proofs.Covered.{covers_means, not_covered_by, run_is_free, begins_no_patch}
-use Rattle.region_steps.proofs.Changed.{put_here, put_other, out_here, out_other, is_among, covers_put, covers_put_other, covers_out, covers_out_other}
+use Rattle.region_steps.specs.Region.{Patches, no_patches, blocks_of, width, covers, is_free_run, put_at, take_out, Stands}
+use Rattle.region_steps.proofs.Covered.{covers_means, not_covered_by, run_is_free}
+use Rattle.region_steps.proofs.Changed.{put_here, put_other, out_here, out_other, covers_put_other, covers_out, covers_out_other}
 
 pub none_stand : (blocks : ℕ) → Stands no_patches blocks
 none_stand blocks = record {
@@ -41,9 +41,9 @@ put_stands patches blocks first bytes stands some inside free =
             let there : covers patches f block ≡ true = sym (covers_put_other patches first bytes f block differs) ∙ e in
             elim (cases_eq other first) [
               | inl same ↦ elim (cases_Bool (covers (put_at patches first bytes) first block)) [
-                  | inl both ↦ absurd (false≢true (sym (clear_of_put patches first bytes f block free both) ∙ there))
-                  | inr clear ↦ subst (λ (o : ℕ). covers (put_at patches first bytes) o block ≡ false) (sym same) clear
-                ]
+                | inl both ↦ absurd (false≢true (sym (clear_of_put patches first bytes f block free both) ∙ there))
+                | inr clear ↦ subst (λ (o : ℕ). covers (put_at patches first bytes) o block ≡ false) (sym same) clear
+              ]
               | inr apart' ↦ covers_put_other patches first bytes other block apart' ∙ stands.are_apart f other block apart there
             ]
       ];
@@ -62,8 +62,8 @@ out_stands patches blocks first stands = record {
   are_apart = λ f other block apart e. elim (cases_eq f first) [
     | inl same ↦ absurd (false≢true (sym (covers_out patches first block) ∙ subst (λ (f : ℕ). covers (take_out patches first) f block ≡ true) same e))
     | inr differs ↦ elim (cases_eq other first) [
-        | inl same ↦ subst (λ (o : ℕ). covers (take_out patches first) o block ≡ false) (sym same) (covers_out patches first block)
-        | inr apart' ↦ covers_out_other patches first other block apart' ∙ stands.are_apart f other block apart (sym (covers_out_other patches first f block differs) ∙ e)
-      ]
+      | inl same ↦ subst (λ (o : ℕ). covers (take_out patches first) o block ≡ false) (sym same) (covers_out patches first block)
+      | inr apart' ↦ covers_out_other patches first other block apart' ∙ stands.are_apart f other block apart (sym (covers_out_other patches first f block differs) ∙ e)
+    ]
   ];
 }

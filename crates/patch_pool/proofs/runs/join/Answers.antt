@@ -1,6 +1,5 @@
-use Rattle.std.proofs.Common.{◌≡◌, ◌<◌, ◌≤◌, ◌+◌, ℕ, List, length, refl, sym, ap, ◌∙◌, subst, arith}
-use Rattle.patch_pool.specs.declared.runs.Run.{Run}
-use Rattle.patch_pool.proofs.Joining.{ArePair, pair_read, first_ends, pair_touching, pair_apart, join_last}
+use Rattle.std.proofs.Common.{◌∙◌, arith}
+use Rattle.patch_pool.proofs.Joining.{pair_read, first_ends, pair_touching, pair_apart, join_last}
 use Rattle.patch_pool.proofs.runs.join.Goals as goal
 
 pub returns-then-at-len-clause-joined : goal.returns-then-at-len-clause-joined

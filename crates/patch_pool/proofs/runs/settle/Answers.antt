@@ -1,8 +1,7 @@
-use Rattle.std.proofs.Common.{◌≡◌, ◌<◌, ◌≤◌, ◌+◌, ◌-◌, ℕ, List, length, vec_len, refl, sym, ap, ◌∙◌, subst, arith}
+use Rattle.std.proofs.Common.{◌<◌, List, length, sym, subst, arith}
 use Rattle.patch_pool.specs.declared.runs.Run.{Run}
-use Rattle.patch_pool.specs.Runs.{AllEnd, join_at, settle}
+use Rattle.patch_pool.specs.Runs.{AllEnd}
 use Rattle.patch_pool.proofs.Joining.{ends_join_at, length_join_at}
-use Rattle.patch_pool.proofs.Giving.{settle_first, settle_later}
 use Rattle.patch_pool.proofs.runs.settle.Goals as goal
 
 pub join-requires-then-at-gt0-clause-within : goal.join-requires-then-at-gt0-clause-within

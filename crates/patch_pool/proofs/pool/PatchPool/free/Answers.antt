@@ -1,12 +1,12 @@
 -- The blocks of the patch were covered by it alone, so they are free once it is out.
-use Rattle.std.proofs.Common.{◌≡◌, ℕ, ◌+◌, ◌<◌, ◌≤◌, Bool, true, ◌||◌, vec_len, refl, sym, ap, ◌∙◌, subst, arith}
-use Rattle.region_steps.specs.Region.{Patches, begins_at, width, take_out, Stands}
+use Rattle.std.proofs.Common.{◌≡◌, ℕ, true, ◌||◌, sym, ap, ◌∙◌, subst, arith}
+use Rattle.region_steps.specs.Region.{Patches, Stands}
 use Rattle.region_steps.proofs.Standing.{out_stands}
-use Rattle.patch_pool.specs.Free.{AreFree, is_within, IsGivenBack}
+use Rattle.patch_pool.specs.Free.{AreFree, is_within}
 use Rattle.patch_pool.specs.Bytes.{patches_in}
 use Rattle.patch_pool.specs.Runs.{is_in}
-use Rattle.patch_pool.specs.Pool.{patches_of, blocks_in}
-use Rattle.patch_pool.proofs.Pooling.{IsHeld, held_is, not_free, free_after_out}
+use Rattle.patch_pool.specs.Pool.{patches_of}
+use Rattle.patch_pool.proofs.Pooling.{held_is, not_free, free_after_out}
 use Rattle.patch_pool.proofs.pool.PatchPool.free.Goals as goal
 
 pub give_back-requires-clause-some : goal.give_back-requires-clause-some

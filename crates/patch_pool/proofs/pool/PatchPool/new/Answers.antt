@@ -1,8 +1,7 @@
-use Rattle.std.proofs.Common.{◌≡◌, ℕ, ◌<◌, ◌≤◌, vec_len, refl, sym, ap, ◌∙◌, subst, arith}
+use Rattle.std.proofs.Common.{sym, ◌∙◌, subst, arith}
 use Rattle.region_steps.specs.Region.{Patches, no_patches, Stands}
 use Rattle.region_steps.proofs.Standing.{none_stand}
 use Rattle.patch_pool.specs.Free.{AreFree}
-use Rattle.patch_pool.specs.Bytes.{patches_in}
 use Rattle.patch_pool.specs.Runs.{is_in}
 use Rattle.patch_pool.proofs.Spaced.{within}
 use Rattle.patch_pool.proofs.Pooling.{all_free}

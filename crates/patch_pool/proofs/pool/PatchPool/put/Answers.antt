@@ -1,11 +1,11 @@
 -- The free runs say where the lowest run of free blocks is, and the patch is copied there.
-use Rattle.std.proofs.Common.{◌≡◌, ℕ, ◌+◌, ◌<◌, ◌≤◌, length, vec_len, refl, sym, ap, ◌∙◌, subst, arith}
+use Rattle.std.proofs.Common.{ℕ, refl, sym, subst, arith}
 use Rattle.region_steps.specs.Region.{Patches, blocks_of, Stands}
 use Rattle.patch_pool.specs.Free.{AreFree}
 use Rattle.patch_pool.specs.Bytes.{patches_in}
 use Rattle.patch_pool.specs.Runs.{is_in}
 use Rattle.patch_pool.specs.Pool.{patches_of, blocks_in}
-use Rattle.patch_pool.proofs.Pooling.{IsPutAt, taken_for, none_for, refused, fitted}
+use Rattle.patch_pool.proofs.Pooling.{taken_for, none_for, refused, fitted}
 use Rattle.patch_pool.proofs.pool.PatchPool.put.Goals as goal
 
 pub returns-in_default-clause-put : goal.returns-in_default-clause-put

@@ -1,7 +1,7 @@
-use Rattle.std.proofs.Common.{◌≡◌, ℕ, ◌+◌, ◌-◌, ◌*◌, ◌<◌, ◌≤◌, List, length, take, drop, Some, vec_len, refl, sym, ap, ◌∙◌, arith}
+use Rattle.std.proofs.Common.{◌≡◌, ℕ, ◌*◌, List, length, take, drop, Some, sym, ap, ◌∙◌, arith}
 use Rattle.std.specs.List.{slice_index}
 use Rattle.std.proofs.lemmas.List.{get_or_read}
-use Rattle.patch_pool.proofs.Memory.{IsPatch, is_patch}
+use Rattle.patch_pool.proofs.Memory.{is_patch}
 use Rattle.patch_pool.proofs.region.Region.bytes.Goals as goal
 
 pub index-requires : goal.index-requires

@@ -1,4 +1,4 @@
-use Rattle.std.proofs.Common.{◌≡◌, ℕ, length, ap, ◌∙◌, arith}
+use Rattle.std.proofs.Common.{ap, ◌∙◌, arith}
 use Rattle.region_steps.specs.Region.{held}
 use Rattle.patch_pool.specs.Bytes.{patches_in}
 use Rattle.patch_pool.proofs.Memory.{held_by_lengths}

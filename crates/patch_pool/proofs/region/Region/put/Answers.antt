@@ -1,9 +1,9 @@
-use Rattle.std.proofs.Common.{◌≡◌, ℕ, ◌+◌, ◌*◌, ◌<◌, ◌≤◌, List, length, take, drop, ◌++◌, vec_len, refl, sym, ap, ◌∙◌, arith}
+use Rattle.std.proofs.Common.{◌≡◌, ℕ, ◌+◌, ◌*◌, ◌<◌, List, length, take, drop, ◌++◌, sym, ap, ◌∙◌, arith}
 use Rattle.std.specs.List.{slice_set}
 use Rattle.std.proofs.lemmas.List.Sums.{count_by-le-length}
 use Rattle.std.proofs.Math.Seq.{take-append_seam}
 use Rattle.patch_pool.specs.Bytes.{begins, patches_in, copied_over}
-use Rattle.patch_pool.proofs.Memory.{CanPut, patches_put, none_before, one_more, inside_set}
+use Rattle.patch_pool.proofs.Memory.{patches_put, none_before, one_more, inside_set}
 use Rattle.patch_pool.proofs.region.Region.put.Goals as goal
 
 whole_front : (bytes rest : List ℕ) (n : ℕ) → n ≡ length bytes → take n (bytes ++ rest) ≡ bytes

@@ -1,7 +1,7 @@
-use Rattle.std.proofs.Common.{◌≡◌, ℕ, ◌+◌, ◌*◌, ◌/◌, ◌<◌, ◌≤◌, List, length, vec_len, refl, sym, ap, ◌∙◌, arith}
+use Rattle.std.proofs.Common.{◌≡◌, ℕ, ◌+◌, ◌/◌, refl, sym, ap, ◌∙◌, arith}
 use Rattle.std.specs.List.{slice_index}
 use Rattle.std.proofs.lemmas.List.{get_or_read}
-use Rattle.patch_pool.proofs.Memory.{IsPatch, is_patch, width_is, patches_out, one_less, inside_set}
+use Rattle.patch_pool.proofs.Memory.{is_patch, width_is, patches_out, one_less, inside_set}
 use Rattle.patch_pool.proofs.region.Region.take_out.Goals as goal
 
 pub index-requires : goal.index-requires

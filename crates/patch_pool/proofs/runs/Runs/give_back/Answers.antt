@@ -1,14 +1,13 @@
 -- There is room for one more run, and the new one is joined at its place.
-use Rattle.std.proofs.Common.{◌≡◌, ◌<◌, ◌≤◌, ◌+◌, ◌*◌, ◌/◌, ℕ, Bool, true, false, ◌||◌, not, nat_lt, List, length, Result, Ok, Err, is_ok, cond, vec_len, refl, sym, ap, ◌∙◌, subst, arith}
-use Rattle.std.specs.List.{insert, position_or_len}
+use Rattle.std.proofs.Common.{◌≡◌, ℕ, not, nat_lt, List, Result, Ok, is_ok, cond, sym, ap, ◌∙◌, subst, arith}
+use Rattle.std.specs.List.{insert}
 use Rattle.std.specs.declared.alloc.AllocFailed.{AllocFailed}
 use Rattle.std.proofs.lemmas.List.Sums.{prefix_len-le-length}
 use Rattle.patch_pool.specs.declared.runs.Run.{Run}
-use Rattle.patch_pool.specs.Free.{is_within}
-use Rattle.patch_pool.specs.Runs.{AllEnd, AreSpaced, LiesIn, is_in, settle}
+use Rattle.patch_pool.specs.Runs.{AllEnd, AreSpaced, is_in, settle}
 use Rattle.patch_pool.proofs.Spaced.{few_runs, spaced_to}
 use Rattle.patch_pool.proofs.Joining.{ends_insert}
-use Rattle.patch_pool.proofs.Giving.{AreApart, place, in_given, spaced_given}
+use Rattle.patch_pool.proofs.Giving.{in_given, spaced_given}
 use Rattle.patch_pool.proofs.runs.Runs.give_back.Goals as goal
 
 abbrev run_of : ℕ → ℕ → Run

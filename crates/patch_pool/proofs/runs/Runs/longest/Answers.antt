@@ -1,4 +1,4 @@
-use Rattle.std.proofs.Common.{◌≡◌, ℕ, sym, subst}
+use Rattle.std.proofs.Common.{sym, subst}
 use Rattle.patch_pool.specs.Free.{IsLongest}
 use Rattle.patch_pool.specs.Runs.{is_in}
 use Rattle.patch_pool.proofs.Lowest.{longest_is}

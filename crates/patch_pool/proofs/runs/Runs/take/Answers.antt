@@ -1,9 +1,9 @@
 -- What is taken begins where the first run that is long enough does, which is where the lowest run of free blocks does.
-use Rattle.std.proofs.Common.{◌≡◌, ◌<◌, ◌≤◌, ◌≢◌, ◌+◌, ◌-◌, ℕ, Bool, ◌&&◌, not, nat_le, List, length, Option, Some, None, slice_index_or, refl, sym, ap, ◌∙◌, subst, arith}
-use Rattle.std.specs.List.{position, remove, slice_set}
+use Rattle.std.proofs.Common.{◌≡◌, ◌<◌, ◌≤◌, ◌≢◌, ℕ, ◌&&◌, not, List, Some, slice_index_or, refl, sym, ap, ◌∙◌, subst, arith}
+use Rattle.std.specs.List.{remove, slice_set}
 use Rattle.std.proofs.lemmas.List.{get_or_read}
 use Rattle.patch_pool.specs.declared.runs.Run.{Run}
-use Rattle.patch_pool.specs.Free.{IsTaken, lowest_of, is_within}
+use Rattle.patch_pool.specs.Free.{IsTaken, is_within}
 use Rattle.patch_pool.specs.Runs.{AreSpaced, IsFit, is_in, run_at, no_run, end_of}
 use Rattle.patch_pool.proofs.Taking.{spaced_remove, in_remove, spaced_set, in_set, rest_of}
 use Rattle.patch_pool.proofs.runs.Runs.take.Goals as goal
