@@ -44,6 +44,49 @@ def selection(cores, count):
     return "".join(f"core {c} rev 0x{c:08x} offer {count - 1} rev 0x{count:08x}\n" for c in range(cores)).encode()
 
 
+AMD_HEAD, AMD_ROW, AMD_SECTION = struct.Struct("<3I"), struct.Struct("<3I2H"), struct.Struct("<2I")
+AMD_PATCH = struct.Struct("<6IH38x")
+MANY_PATCHES = MIB // (AMD_SECTION.size + AMD_PATCH.size)
+
+
+def make_rows(name, rows, patches, id_of_row, id_of_patch):
+    """Writes an AMD file of one container: so many rows, no two of one signature, and so many patches of 64 bytes."""
+    with open(name, "wb") as file:
+        file.write(AMD_HEAD.pack(0x00414D44, 0, AMD_ROW.size * rows))
+        file.writelines(AMD_ROW.pack((0xA20F10 + 0x9E3779B1 * i) % 2**32, 0, 0, id_of_row(i), 0) for i in range(rows))
+        file.writelines(AMD_SECTION.pack(1, AMD_PATCH.size) + AMD_PATCH.pack(0, i + 1, 0, 0, 0, 0, id_of_patch(i))
+                        for i in range(patches))
+
+
+def make_amd_topology(name, cores):
+    """Writes an AMD topology of so many cores with a thread each, no two alike."""
+    with open(name, "w") as file:
+        file.write("ucode-topology 1\nvendor amd\n")
+        file.writelines(f"core {c} sig {0xA20F10 + c:#x} flags 0 rev 0\n" for c in range(cores))
+        file.writelines(f"cpu {c} core {c}\n" for c in range(cores))
+
+
+def hostile(ucode):
+    """Returns the rows of the table on AMD files that are made to cost much: ten times the rows, and all else alike."""
+    kinds = (
+        ("one id for all rows, one patch", 1, lambda i: 0xA210, lambda i: 0xA210),
+        (f"65,535 ids in turn, {MANY_PATCHES:,} patches of no row", MANY_PATCHES, lambda i: i % 0xFFFF,
+         lambda i: 0xFFFF),
+    )
+    make_amd_topology("amd256", 256)
+    table = []
+    for text, patches, id_of_row, id_of_patch in kinds:
+        sizes = (10**4, 10**5, 10**6)
+        for rows in sizes:
+            make_rows(f"rows{rows}", rows, patches, id_of_row, id_of_patch)
+        for words in (["list"], ["select", "amd256"]):
+            commands = [[ucode, *words, f"rows{rows}"] for rows in sizes]
+            ratios = " and ".join(f"{time_ratio(more, less, 5):.1f}" for less, more in zip(commands, commands[1:]))
+            table.append((f"`{words[0]}`, {text}: time of 10^5 rows to 10^4, and of 10^6 to 10^5", ratios,
+                          "at most 13"))
+    return table
+
+
 def start(command, stdout):
     return os.posix_spawn(command[0], command, os.environ, file_actions=[(os.POSIX_SPAWN_DUP2, stdout, 1)])
 
@@ -91,21 +134,31 @@ def time_ratio(command, to, runs=RUNS):
     return min(a for a, b in times) / min(b for a, b in times)
 
 
-def measure(ucode, source):
+def compiled(name):
+    """Compiles a C program that lies beside this script into the current folder, and returns its path."""
+    source = os.path.join(os.path.dirname(SCRIPT), name + ".c")
+    subprocess.run(["gcc", "-O2", "-o", name, source], check=True)
+    return os.path.abspath(name)
+
+
+def measure(ucode):
     """Returns the rows of the table. It works in the current folder."""
-    reader = [os.path.abspath("read_and_sum"), "large.bin"]
-    subprocess.run(["gcc", "-O2", "-o", reader[0], source], check=True)
+    reader, pieces = [compiled("read_and_sum"), "large.bin"], compiled("read_in_pieces")
+    summed, listed = [pieces, "sum", "large.bin"], [pieces, "list", "whole.bin"]
     large, whole, half = ([ucode, "list", name] for name in ("large.bin", "whole.bin", "half.bin"))
 
     text = make_file("large.bin", 4096, 16384)
     expect(large, b"".join(writes_of(large)), text)
     expect(reader, b"".join(writes_of(reader)), b"0x00000000\n")
-    to_reader = time_ratio(large, reader)
+    expect(summed, b"".join(writes_of(summed)), b"0x00000000\n")
+    to_reader, to_summed = time_ratio(large, reader), time_ratio(large, summed)
     above = peak_above(large, os.path.getsize("large.bin"))
 
     text = make_file("whole.bin", 65536, 64)
     writes = writes_of(whole)
     expect(whole, b"".join(writes), text)
+    expect(listed, b"".join(writes_of(listed)), text)
+    to_listed = time_ratio(whole, listed)
     half_text = make_file("half.bin", 32768, 64)
     expect(half, b"".join(writes_of(half)), half_text)
     to_half = time_ratio(whole, half)
@@ -126,9 +179,12 @@ def measure(ucode, source):
 
     return [
         ("64 MiB in 4,096 updates: time, to the plain reader's", f"{to_reader:.2f}", "at most 1.3"),
-        ("64 MiB in 4,096 updates: peak memory", f"the file's size and {above:.1f} MiB", "the file's size and at most 32 MiB"),
+        ("64 MiB in 4,096 updates: time, to the reader in pieces", f"{to_summed:.2f}", "at most 1.2"),
+        ("64 MiB in 4,096 updates: peak memory", f"the file's size and {above:.1f} MiB",
+         "the file's size and at most 32 MiB"),
         ("4 MiB in 65,536 updates: writes, to blocks of 64 KiB", f"{len(writes):,} to {-(-len(text) // 65536):,}",
          "one for each"),
+        ("4 MiB in 65,536 updates: time, to the reader in pieces that lists", f"{to_listed:.2f}", "at most 1.5"),
         ("4 MiB in 65,536 updates: time, to that of 32,768", f"{to_half:.2f}", "about 2"),
         ("16 such files: time, to that of 8", f"{time_ratio(sixteen, eight, 5):.2f}", "about 2"),
         ("16 such files: peak memory", f"the files' size and {peak_above(sixteen, 16 * of_files):.1f} MiB",
@@ -150,10 +206,9 @@ def main():
     if len(sys.argv) != 2 or not os.access(sys.argv[1], os.X_OK):
         sys.exit("usage: run.py PATH, the path of the built ucode")
     ucode = os.path.abspath(sys.argv[1])
-    source = os.path.join(os.path.dirname(SCRIPT), "read_and_sum.c")
     with tempfile.TemporaryDirectory() as folder:
         os.chdir(folder)
-        rows = measure(ucode, source)
+        rows = measure(ucode) + hostile(ucode)
         os.chdir("/")
     print(f"| `ucode list` and `select`, on {os.cpu_count()} cores | Measured | Target |\n|---|---|---|")
     for row in rows:

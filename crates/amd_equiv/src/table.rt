@@ -27,6 +27,16 @@ impl<'a> Model for EquivTable<'a> {
 }
 
 impl<'a> EquivTable<'a> {
+    ghost use Rattle.amd_format.specs.Equiv.{IsEquiv};
+
+    /// The table of bytes that are a head and its table, as `read_equiv` found once.
+    pub fn whole(bytes: &'a [u8]) -> EquivTable<'a>
+        requires { IsEquiv bytes.now }
+        ensures { result ≡ bytes.now }
+    {
+        EquivTable { bytes }
+    }
+
     /// The table without the head.
     fn table(&self) -> &[u8]
         ensures { result.now ≡ drop 12 self.now }

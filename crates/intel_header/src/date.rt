@@ -31,14 +31,21 @@ fn day_on(year: u16, month: u8, day: u8) -> Option<Date>
     Date::new(year as i16, month as i8, day as i8).ok()
 }
 
-/// The day that an update's date names, or None where a digit of it is not decimal or the calendar has no such day.
-pub fn date_of(h: &IntelHeader) -> Option<Date>
-    ensures { IsDayOf h.now.date result }
+/// The day that a date word names, or None where a digit of it is not decimal or the calendar has no such day.
+pub fn day_of(date: u32) -> Option<Date>
+    ensures { IsDayOf date result }
 {
-    let [month, day, century, year] = h.date.to_be_bytes();
+    let [month, day, century, year] = date.to_be_bytes();
     let month = two_digits(month)?;
     let day = two_digits(day)?;
     let century = two_digits(century)?;
     let year = two_digits(year)?;
     day_on(100 * u16::from(century) + u16::from(year), month, day)
+}
+
+/// The day of an update.
+pub fn date_of(h: &IntelHeader) -> Option<Date>
+    ensures { IsDayOf h.now.date result }
+{
+    day_of(h.date)
 }

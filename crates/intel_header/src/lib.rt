@@ -4,6 +4,6 @@
 mod date;
 mod header;
 
-pub use date::date_of;
+pub use date::{date_of, day_of};
 pub use header::{HeaderFault, read_header};
 pub use intel_format::IntelHeader;

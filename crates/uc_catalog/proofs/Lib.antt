@@ -1,4 +1,5 @@
 mod Added
+mod Indexing
 mod Many
 mod Patches
 mod Served

@@ -1,5 +1,6 @@
 -- How many entries files have.
 use Rattle.std.proofs.Common.{◌≡◌, ℕ, ◌+◌, ◌*◌, ◌≤◌, List, [], ◌∷◌, length, refl, ap, arith, length-append}
+use Rattle.std.proofs.lemmas.List.{length-map}
 use Rattle.intel_format.specs.File.{FileUpdate}
 use Rattle.amd_format.specs.Equiv.{rows_of}
 use Rattle.amd_format.specs.File.{FileContainer, container_bytes, patches_in}
@@ -7,7 +8,7 @@ use Rattle.file_entries.specs.Reading.{Reading, OfIntel, OfAmd, IsReading}
 use Rattle.file_entries.specs.Entry.{AreReadings, entries_of_updates, entries_of_sections, entries_of_containers, entries_of, entries_from}
 use Rattle.uc_catalog.specs.declared.place.Place.{Place}
 use Rattle.uc_catalog.specs.Contents.{IsWhole}
-use Rattle.uc_catalog.specs.Places.{ArePlaces, contents_of}
+use Rattle.uc_catalog.specs.Places.{ArePlaces, ArePlacesOf, contents_of, entry_in, entry_among}
 
 -- each update is an entry
 many_updates : (file start : ℕ) (us : List FileUpdate) → length (entries_of_updates file start us) ≡ length us
@@ -46,3 +47,14 @@ whole_is files places are = record {
   few_files = are.few;
   few_entries = omega (arith, ap length are.entries.all, many_of_files 0 files are.entries.readings are.entries.are_readings);
 }
+
+-- a file's places are at most 65,536
+pub few_of_file : (number : ℕ) (file : List ℕ) (places : List Place) → ArePlacesOf number file places → length places ≤ 65536
+few_of_file number file places of =
+    omega (arith, length-map places (entry_in file), ap length of.entries, many_of_file file number of.reading of.is_reading)
+
+-- and all places are at most 1,048,576
+pub few_of_all : (files : List (List ℕ)) (places : List Place) → ArePlaces files places → length places ≤ 1048576
+few_of_all files places are =
+    let whole = whole_is files places are in
+    omega (arith, whole.few_files, whole.few_entries, length-map places (entry_among files))

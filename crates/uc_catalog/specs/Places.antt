@@ -10,6 +10,7 @@ use Rattle.intel_format.specs.Update.{IntelUpdate, entry_count, pair_at}
 use Rattle.intel_format.specs.File.{FileUpdate}
 use Rattle.amd_format.specs.Equiv.{IsEquiv, amd_magic, rows_of}
 use Rattle.amd_format.specs.Patch.{IsPatch}
+use Rattle.equiv_index.specs.Indexed.{IsIndexOf}
 use Rattle.file_entries.specs.Reading.{Reading, IsReading, HasFault}
 use Rattle.file_entries.specs.Entry.{Entry, Entries, update_entry, patch_entry, entries_of}
 use Rattle.uc_catalog.specs.declared.place.Place.{Place}
@@ -124,5 +125,5 @@ IsPlaced number file old new (Err NoMemory) = new ≡ old
 abbrev pub IsFound : Entry → Found → Type 0
 IsFound entry (Update place own) =
     IsUpdate own.now × (length own.now < 2 ^ 32) × (entry ≡ update_entry place.file place.start (update_in own.now))
-IsFound entry (Patch place equiv own) =
-    IsEquiv equiv.now × IsPatch own.now × (length own.now < 2 ^ 32) × (entry ≡ patch_entry place.file place.start (rows_of equiv.now) own.now)
+IsFound entry (Patch place index own) =
+    IsPatch own.now × (length own.now < 2 ^ 32) × ((rows : List (ℕ × ℕ)) × IsIndexOf rows index.now × (entry ≡ patch_entry place.file place.start rows own.now))

@@ -2,13 +2,14 @@ ghost use Rattle.std.specs.Prelude.{◌≡◌, ◌^◌, ◌<◌, ◌≤◌, ◌�
 
 use crate::adding::place_file;
 use crate::found::Found;
-use crate::patch::{equiv_bytes, id_for, patch_facts, served_sig};
+use crate::indexes::EntryIndexes;
+use crate::patch::{patch_facts, served_sig};
 use crate::place::{Place, is_amd, own_bytes};
 use crate::update::{header_pair, table_pair, table_pairs, update_facts};
 use file_entries::EntryFacts;
 use std::alloc::Global;
 use std::marker::Model;
-use uc_bytes::{FileAnswer, Vendor, half_at};
+use uc_bytes::{FileAnswer, NoMemory, Vendor, half_at};
 
 /// Update files and their entries. A contract sees the bytes of each file, and all entries in the order of the files and
 /// of their places there. Files and entries are numbered from 0.
@@ -17,6 +18,7 @@ pub struct Catalog {
     alloc: Global,
     files: Vec<Vec<u8>>,
     places: Vec<Place>,
+    indexes: EntryIndexes,
 }
 
 impl Model for Catalog {
@@ -24,11 +26,12 @@ impl Model for Catalog {
 
     ghost Value = { Contents };
 
-    ghost use Rattle.uc_catalog.specs.Places.{contents_of, bytes_in, ArePlaces};
+    ghost use Rattle.uc_catalog.specs.Places.{contents_of, bytes_in};
+    ghost use Rattle.uc_catalog.specs.Indexes.{AreKept};
 
     ghost view = { λ catalog. contents_of (bytes_in catalog.files.items) catalog.places.items };
 
-    ghost invariant = { λ catalog. ArePlaces (bytes_in catalog.files.items) catalog.places.items };
+    ghost invariant = { λ catalog. AreKept (bytes_in catalog.files.items) catalog.places.items catalog.indexes.tables.items catalog.indexes.numbers.items };
 }
 
 impl Catalog {
@@ -48,6 +51,7 @@ impl Catalog {
             alloc,
             files: Vec::new(alloc),
             places: Vec::new(alloc),
+            indexes: EntryIndexes::new(alloc),
         }
     }
 
@@ -61,9 +65,18 @@ impl Catalog {
     {
         self.files.reserve(1)?;
         let number = self.files.len() as u32;
+        let standing = self.places.len();
         match place_file(self.alloc, &mut self.places, number, bytes.as_slice()) {
             Ok(()) => {}
             Err(answer) => return Err(answer),
+        }
+        let places = &self.places[standing..];
+        match self.indexes.add(self.alloc, bytes.as_slice(), places) {
+            Ok(()) => {}
+            Err(NoMemory) => {
+                self.places.truncate(standing);
+                return Err(FileAnswer::NoMemory);
+            }
         }
         self.files.push_reserved(bytes);
         Ok(())
@@ -105,7 +118,7 @@ impl Catalog {
         let file = self.files[place.file as usize].as_slice();
         let own = own_bytes(file, &place);
         if is_amd(file) {
-            Found::Patch(place, equiv_bytes(file, &place), own)
+            Found::Patch(place, self.indexes.of_entry(i), own)
         } else {
             Found::Update(place, own)
         }
@@ -118,7 +131,7 @@ impl Catalog {
     {
         match self.found(i) {
             Found::Update(place, own) => update_facts(&place, own),
-            Found::Patch(place, equiv, own) => patch_facts(&place, equiv, own),
+            Found::Patch(place, _, own) => patch_facts(&place, own),
         }
     }
 
@@ -174,7 +187,7 @@ impl Catalog {
     {
         match self.found(i) {
             Found::Update(..) => 0,
-            Found::Patch(_, equiv, _) => id_for(equiv, sig),
+            Found::Patch(_, index, _) => index.id_of(sig),
         }
     }
 
@@ -186,7 +199,7 @@ impl Catalog {
     {
         match self.found(i) {
             Found::Update(..) => None,
-            Found::Patch(_, equiv, own) => served_sig(equiv, half_at(own, 24), k),
+            Found::Patch(_, index, own) => served_sig(index, half_at(own, 24), k),
         }
     }
 }

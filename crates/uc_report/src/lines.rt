@@ -6,8 +6,7 @@ ghost use Rattle.report_text.specs.Listing.{AreDateTexts, entry_line};
 
 use arrayvec::ArrayVec;
 use file_entries::EntryFacts;
-use intel_format::IntelHeader;
-use intel_header::date_of;
+use intel_header::day_of;
 use uc_bytes::{Text, Vendor};
 use uc_io::{Sink, SinkFailed, write_line};
 use uc_text::{dec, hex8};
@@ -73,32 +72,12 @@ fn day_text(date: u32) -> [u8; 10]
     [c1, c2, y1, y2, b'-', m1, m2, b'-', d1, d2]
 }
 
-/// A header of which only the date counts: the reader of dates takes one.
-fn dated(date: u32) -> IntelHeader
-    ensures { result.date ≡ date }
-{
-    IntelHeader {
-        version: 1,
-        rev: 0,
-        date,
-        sig: 0,
-        cksum: 0,
-        loader: 1,
-        flags: 0,
-        size_field: 0,
-        total_field: 0,
-        meta: 0,
-        min: 0,
-        reserved: 0,
-    }
-}
-
 /// The day that an update's date names, or a dash where it names none.
 fn date_text(date: u32) -> ArrayVec<u8, 10>
     ensures { IsDateText date result.items }
 {
     let mut text = ArrayVec::new();
-    match date_of(&dated(date)) {
+    match day_of(date) {
         Some(_) => text.try_extend_from_slice(&day_text(date)).unwrap(),
         None => text.push(b'-'),
     }
