@@ -1,0 +1,4 @@
+mod Lists
+mod Drawing
+mod Lines
+mod Pieces

@@ -1,0 +1,5 @@
+pub mod Bundle
+pub mod Containers
+pub mod Draws
+pub mod Tally
+pub mod Texts
