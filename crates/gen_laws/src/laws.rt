@@ -1,0 +1,9 @@
+ghost use Rattle.std.specs.Prelude.{ℕ};
+ghost use Rattle.uc_gen.specs.Texts.{topology_text};
+ghost use Rattle.uc_topology.specs.Texts.{States};
+ghost use Rattle.gen_laws.specs.Stated.{machine_of};
+
+/// The generated topology states 128 cores, each a group of its own, with two threads each and what was drawn for it.
+pub fn generated_topology_is_read()
+    ensures { (number : ℕ) → States (topology_text number) (machine_of number) }
+{}

@@ -1,0 +1,7 @@
+//! Laws of generated input: whatever the number, the generated topology states a machine. Each law is the contract of a
+//! function that does nothing.
+#![tactic(auto)]
+
+mod laws;
+
+pub use laws::generated_topology_is_read;
