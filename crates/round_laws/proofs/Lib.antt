@@ -18,3 +18,4 @@ pub mod OfflineWaiting
 pub mod Siblings
 pub mod Halting
 pub mod Withdrawing
+pub mod Leaving
