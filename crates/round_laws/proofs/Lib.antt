@@ -19,3 +19,4 @@ pub mod Siblings
 pub mod Halting
 pub mod Withdrawing
 pub mod Leaving
+pub mod Entering
