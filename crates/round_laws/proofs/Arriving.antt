@@ -22,14 +22,14 @@ use Rattle.rendezvous_rule.specs.View.{View, view, views}
 use Rattle.rendezvous_rule.specs.Seen.{seen, words_of}
 use Rattle.rendezvous_rule.specs.Knows.{Knows, OnlineKnows, AllHere}
 use Rattle.rendezvous_rule.specs.Rule.{RuleBy, Gathered, AllOnlineHere}
-use Rattle.rule_laws.specs.Kept.{Kept, event_of}
+use Rattle.rule_laws.specs.Kept.{Kept, event_of, is_step}
 use Rattle.rule_laws.proofs.Count.{same_or_not}
 use Rattle.rule_laws.proofs.Frame.{at_phase, put_same, put_other, put_all, put_back, grows, and_true, and_false, equal_numbers, same_numbers, different}
 use Rattle.rule_laws.proofs.Tables.{put_view, only_arrived}
 use Rattle.rule_laws.proofs.Later.{later_arrived}
-use Rattle.rule_laws.proofs.Step.{Change, step_kept, is_step, stands_in}
+use Rattle.rule_laws.proofs.Step.{Change, step_kept, stands_in}
 use Rattle.rule_laws.proofs.Facts.{state, view_is, is_inside, own_round}
-use Rattle.round_laws.specs.OneStep.{KeepsTheRule}
+use Rattle.round_laws.proofs.Kind.{KeepsTheRule}
 use Rattle.round_laws.proofs.Paths.{plain}
 use Rattle.round_laws.proofs.Arrivals.{one_less, few_awaited, awaited_less, offline_same, none_awaited, all_online_here}
 
@@ -218,6 +218,7 @@ arrives_kept plan moment t h first stage at polls mine sound padded rule own her
     less n m e = omega arith
 
 arriving_kept : (h : How) → is_step h ≡ true → KeepsTheRule phase.Arriving h
+unfolding KeepsTheRule
 arriving_kept h own plan moment t sound padded rule phase_is =
     let l = moment.locals t in
     let at_thread = stands_in phase.Arriving plan (families moment.words) moment.locals rule.first rule.stage t rule.by phase_is refl in

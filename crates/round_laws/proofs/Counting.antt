@@ -20,14 +20,14 @@ use Rattle.rendezvous_rule.specs.View.{View, view, views}
 use Rattle.rendezvous_rule.specs.Seen.{seen, words_of}
 use Rattle.rendezvous_rule.specs.Knows.{Knows, Came, AllHere}
 use Rattle.rendezvous_rule.specs.Rule.{RuleBy, Gathered, AllOnlineHere}
-use Rattle.rule_laws.specs.Kept.{Kept, event_of}
+use Rattle.rule_laws.specs.Kept.{Kept, event_of, is_step}
 use Rattle.rule_laws.proofs.Count.{same_or_not}
 use Rattle.rule_laws.proofs.Frame.{at_phase, put_other, put_back, grows, another_kind}
 use Rattle.rule_laws.proofs.Tables.{only_arrived}
 use Rattle.rule_laws.proofs.Later.{later_arrived}
-use Rattle.rule_laws.proofs.Step.{Change, step_kept, is_step}
+use Rattle.rule_laws.proofs.Step.{Change, step_kept}
 use Rattle.rule_laws.proofs.Facts.{state, view_is, is_inside, own_round}
-use Rattle.round_laws.specs.OneStep.{KeepsTheRule}
+use Rattle.round_laws.proofs.Kind.{KeepsTheRule}
 use Rattle.round_laws.proofs.Arrivals.{one_more, few_arrived, arrived_more, awaited_same}
 use Rattle.round_laws.proofs.Standing.{stands_offline}
 
@@ -113,6 +113,7 @@ counts_kept plan moment t h first stage at polls mine sound padded rule own here
     (own_round plan t h (s moment.latched) (next moment.latched) what.Arrive own (refl, arrives) (refl, arrives))
 
 offline_count_kept : (h : How) → is_step h ≡ true → KeepsTheRule phase.OfflineCount h
+unfolding KeepsTheRule
 offline_count_kept h own plan moment t sound padded rule phase_is =
     let l = moment.locals t in
     let at_thread = stands_offline phase.OfflineCount plan (families moment.words) moment.locals rule.first rule.stage t rule.by phase_is refl in

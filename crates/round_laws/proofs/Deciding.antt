@@ -19,13 +19,13 @@ use Rattle.rendezvous_rule.specs.View.{View, view, views}
 use Rattle.rendezvous_rule.specs.Seen.{seen, words_of}
 use Rattle.rendezvous_rule.specs.Knows.{Knows}
 use Rattle.rendezvous_rule.specs.Rule.{RuleBy}
-use Rattle.rule_laws.specs.Kept.{Kept, event_of}
+use Rattle.rule_laws.specs.Kept.{Kept, event_of, is_step}
 use Rattle.rule_laws.proofs.Frame.{at_phase}
 use Rattle.rule_laws.proofs.Tables.{only_deciding}
 use Rattle.rule_laws.proofs.Later.{later_stage}
-use Rattle.rule_laws.proofs.Step.{step_kept, unseen_kept, inner_round, is_step, stands_in}
+use Rattle.rule_laws.proofs.Step.{step_kept, unseen_kept, inner_round, stands_in}
 use Rattle.rule_laws.proofs.Facts.{state, view_is, is_inside, own_round}
-use Rattle.round_laws.specs.OneStep.{KeepsTheRule}
+use Rattle.round_laws.proofs.Kind.{KeepsTheRule}
 use Rattle.round_laws.proofs.Found.{cas_keeps, dropped_not_0, not_taken}
 use Rattle.round_laws.proofs.Paths.{go_view, go_row, drop_arrived, drop_row, given_anew}
 
@@ -141,6 +141,7 @@ decides_by plan moment t h first (DroppedBy u) at polls mine sound padded rule o
     finds_drop plan moment t h first (DroppedBy u) at polls mine sound padded rule own refl here online
 
 deciding_kept : (h : How) → is_step h ≡ true → KeepsTheRule phase.Deciding h
+unfolding KeepsTheRule
 deciding_kept h own plan moment t sound padded rule phase_is =
     let l = moment.locals t in
     let at_thread = stands_in phase.Deciding plan (families moment.words) moment.locals rule.first rule.stage t rule.by phase_is refl in

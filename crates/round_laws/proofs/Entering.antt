@@ -26,15 +26,15 @@ use Rattle.rendezvous_rule.specs.View.{View, Views, view, views, place_in, write
 use Rattle.rendezvous_rule.specs.Seen.{seen, words_of, place_seen, freed_seen, mode_code, ctrl_code, nmi_code, has_begun, writes_now}
 use Rattle.rendezvous_rule.specs.Knows.{Knows, OnlineKnows, OfflineKnows, AllHere}
 use Rattle.rendezvous_rule.specs.Rule.{RuleBy}
-use Rattle.rule_laws.specs.Kept.{Ruled, Kept, event_of}
+use Rattle.rule_laws.specs.Kept.{Ruled, Kept, event_of, is_step}
 use Rattle.rule_laws.proofs.Assemble.{unsettled, settled_kicked}
 use Rattle.rule_laws.proofs.Frame.{at_phase, is_at, coded, code_kept, and_true, and_false, equal_numbers, same_numbers, different, another_kind}
 use Rattle.rule_laws.proofs.Tables.{only_place, sees_place_here}
 use Rattle.rule_laws.proofs.Later.{later_place}
-use Rattle.rule_laws.proofs.Step.{Change, step_kept, quiet_kept, poll_kept, is_step}
+use Rattle.rule_laws.proofs.Step.{Change, step_kept, quiet_kept, poll_kept}
 use Rattle.rule_laws.proofs.Loops.{past, offline_begins, offline_found, none_offline}
 use Rattle.rule_laws.proofs.Facts.{state, view_is, own_round}
-use Rattle.round_laws.specs.OneStep.{KeepsTheRule}
+use Rattle.round_laws.proofs.Kind.{KeepsTheRule}
 use Rattle.round_laws.proofs.Found.{cas_keeps}
 use Rattle.round_laws.proofs.Writing.{own_group}
 
@@ -427,6 +427,7 @@ outside_by plan moment t h KindAbsent sound padded rule own e kind knows =
     outside_not_nothing f = true≢false (ap is_outside f)
 
 outside_kept : (h : How) → is_step h ≡ true → KeepsTheRule phase.Outside h
+unfolding KeepsTheRule
 outside_kept h own plan moment t sound padded rule phase_is =
     outside_by plan moment t h (plan.kind t) sound padded rule own phase_is refl (rule.by.knows t)
 

@@ -21,14 +21,14 @@ use Rattle.rendezvous_rule.specs.View.{View, Views, view, views, is_timeout}
 use Rattle.rendezvous_rule.specs.Seen.{seen, words_of, place_seen, ctrl_code, release_code, freed_seen}
 use Rattle.rendezvous_rule.specs.Knows.{Knows, Ends, Reports, report_of, report_by, result_for}
 use Rattle.rendezvous_rule.specs.Rule.{RuleBy}
-use Rattle.rule_laws.specs.Kept.{Kept, event_of}
+use Rattle.rule_laws.specs.Kept.{Kept, event_of, is_step}
 use Rattle.rule_laws.proofs.Frame.{at_phase, coded, put_back, put_map, and_false, and_both, not_itself, sibling, leads_sibling, no_primary_of}
 use Rattle.rule_laws.proofs.Tables.{put_view, only_frees, sees_frees}
 use Rattle.rule_laws.proofs.Later.{later_freed}
-use Rattle.rule_laws.proofs.Step.{step_kept, unseen_kept, inner_round, is_step, stands_in}
+use Rattle.rule_laws.proofs.Step.{step_kept, unseen_kept, inner_round, stands_in}
 use Rattle.rule_laws.proofs.Loops.{past, sibling_goes_on, sibling_found}
 use Rattle.rule_laws.proofs.Facts.{state, view_is, is_inside, own_round, none_settled}
-use Rattle.round_laws.specs.OneStep.{KeepsTheRule}
+use Rattle.round_laws.proofs.Kind.{KeepsTheRule}
 use Rattle.round_laws.proofs.Found.{cas_keeps}
 use Rattle.round_laws.proofs.Inside.{inside_after_go}
 
@@ -316,6 +316,7 @@ free_by plan moment t h first DroppedByKick k polls mine sound padded rule own h
 free_by plan moment t h first (DroppedBy u) k polls mine sound padded rule own here online going primary result next = cc
 
 freeing_kept : (h : How) → is_step h ≡ true → KeepsTheRule phase.Freeing h
+unfolding KeepsTheRule
 freeing_kept h own plan moment t sound padded rule phase_is =
     let l = moment.locals t in
     let at_thread = stands_in phase.Freeing plan (families moment.words) moment.locals rule.first rule.stage t rule.by phase_is refl in

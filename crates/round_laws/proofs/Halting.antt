@@ -25,13 +25,13 @@ use Rattle.rendezvous_rule.specs.View.{View, view, views, is_timeout}
 use Rattle.rendezvous_rule.specs.Seen.{seen, words_of, place_seen, freed_seen, mode_code, ctrl_code, nmi_code, release_code, writes_now}
 use Rattle.rendezvous_rule.specs.Knows.{Knows, Came, report_of, report_by}
 use Rattle.rendezvous_rule.specs.Rule.{RuleBy}
-use Rattle.rule_laws.specs.Kept.{Kept, event_of}
+use Rattle.rule_laws.specs.Kept.{Kept, event_of, is_step}
 use Rattle.rule_laws.proofs.Frame.{at_phase, coded, code_kept, offline_leads_not}
 use Rattle.rule_laws.proofs.Tables.{only_place, sees_place_here}
 use Rattle.rule_laws.proofs.Later.{later_place}
-use Rattle.rule_laws.proofs.Step.{Change, step_kept, inner_kept, poll_kept, is_step, stands_in}
+use Rattle.rule_laws.proofs.Step.{Change, step_kept, inner_kept, poll_kept, stands_in}
 use Rattle.rule_laws.proofs.Facts.{state, view_is, is_inside, freed_reported}
-use Rattle.round_laws.specs.OneStep.{KeepsTheRule}
+use Rattle.round_laws.proofs.Kind.{KeepsTheRule}
 use Rattle.round_laws.proofs.Found.{load_keeps, cas_keeps, not_taken}
 use Rattle.round_laws.proofs.Paths.{plain}
 use Rattle.round_laws.proofs.Siblings.{no_primary_leaves}
@@ -291,6 +291,7 @@ sibling_by plan moment t how.Timeout first at polls mine false sound padded rule
 sibling_by plan moment t how.Nmi first at polls mine false sound padded rule own here online primary freed = absurd (true≢false (sym own))
 
 sibling_wait_kept : (h : How) → is_step h ≡ true → KeepsTheRule phase.SiblingWait h
+unfolding KeepsTheRule
 sibling_wait_kept h own plan moment t sound padded rule phase_is =
     let l = moment.locals t in
     let at_thread = stands_in phase.SiblingWait plan (families moment.words) moment.locals rule.first rule.stage t rule.by phase_is refl in
@@ -379,6 +380,7 @@ hold_by plan moment t how.Timeout first stage at polls mine false sound padded r
 hold_by plan moment t how.Nmi first stage at polls mine false sound padded rule own here offline row freed = absurd (true≢false (sym own))
 
 offline_hold_kept : (h : How) → is_step h ≡ true → KeepsTheRule phase.OfflineHold h
+unfolding KeepsTheRule
 offline_hold_kept h own plan moment t sound padded rule phase_is =
     let l = moment.locals t in
     let at_thread = stands_offline phase.OfflineHold plan (families moment.words) moment.locals rule.first rule.stage t rule.by phase_is refl in

@@ -19,14 +19,14 @@ use Rattle.rendezvous_rule.specs.View.{View, view, views}
 use Rattle.rendezvous_rule.specs.Seen.{seen, words_of, nmi_code}
 use Rattle.rendezvous_rule.specs.Knows.{Knows, OnlineKnows}
 use Rattle.rendezvous_rule.specs.Rule.{RuleBy}
-use Rattle.rule_laws.specs.Kept.{Kept, event_of}
+use Rattle.rule_laws.specs.Kept.{Kept, event_of, is_step}
 use Rattle.rule_laws.proofs.Frame.{at_phase, coded, and_false, some_offline, not_itself}
 use Rattle.rule_laws.proofs.Tables.{only_kicks, sees_kicks}
 use Rattle.rule_laws.proofs.Later.{later_kicked}
-use Rattle.rule_laws.proofs.Step.{step_kept, is_step, stands_in}
+use Rattle.rule_laws.proofs.Step.{step_kept, stands_in}
 use Rattle.rule_laws.proofs.Loops.{past, offline_goes_on, offline_found}
 use Rattle.rule_laws.proofs.Facts.{state, view_is, is_inside, own_round, unkicked_is_out}
-use Rattle.round_laws.specs.OneStep.{KeepsTheRule}
+use Rattle.round_laws.proofs.Kind.{KeepsTheRule}
 
 -- what others see of it: whom it has kicked
 kicks_view :
@@ -100,6 +100,7 @@ kick_kept plan moment h first stage k polls mine sound padded rule own here offl
     (own_round plan 0 h _ _ (what.Kick k) own (refl, kicks moment.latched) (refl, kicks moment.latched))
 
 kicking_kept : (h : How) → is_step h ≡ true → KeepsTheRule phase.Kicking h
+unfolding KeepsTheRule
 kicking_kept h own plan moment t sound padded rule phase_is =
     let at_thread = stands_in phase.Kicking plan (families moment.words) moment.locals rule.first rule.stage t rule.by phase_is refl in
     let zero = at_thread.row.0 in

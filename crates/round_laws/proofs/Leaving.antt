@@ -24,14 +24,14 @@ use Rattle.rendezvous_rule.specs.View.{View, Views, view, views, place_in, is_ti
 use Rattle.rendezvous_rule.specs.Seen.{seen, words_of, place_seen, freed_seen, mode_code, ctrl_code, nmi_code, writes_now}
 use Rattle.rendezvous_rule.specs.Knows.{Knows, OnlineKnows, OfflineKnows, CameAndFreed, Ends, report_of, result_for}
 use Rattle.rendezvous_rule.specs.Rule.{RuleBy}
-use Rattle.rule_laws.specs.Kept.{Ruled, Kept, event_of}
+use Rattle.rule_laws.specs.Kept.{Ruled, Kept, event_of, is_step}
 use Rattle.rule_laws.proofs.Assemble.{number_back}
 use Rattle.rule_laws.proofs.Frame.{at_phase, is_at, coded, code_kept, and_both, same_numbers, equal_numbers, leads_sibling}
 use Rattle.rule_laws.proofs.Tables.{only_place, sees_place}
 use Rattle.rule_laws.proofs.Later.{later_place}
-use Rattle.rule_laws.proofs.Step.{Change, step_kept, is_step}
+use Rattle.rule_laws.proofs.Step.{Change, step_kept}
 use Rattle.rule_laws.proofs.Facts.{state, view_is, is_inside, own_round, freed_reported}
-use Rattle.round_laws.specs.OneStep.{KeepsTheRule}
+use Rattle.round_laws.proofs.Kind.{KeepsTheRule}
 use Rattle.round_laws.proofs.Writing.{own_group}
 
 -- Its place changes, and its mode.
@@ -329,6 +329,7 @@ leaves_by plan moment t h KindAbsent sound padded rule own e kind knows =
     leaving_not_nothing f = true≢false (ap is_leaving f)
 
 leaving_kept : (h : How) → is_step h ≡ true → KeepsTheRule phase.Leaving h
+unfolding KeepsTheRule
 leaving_kept h own plan moment t sound padded rule phase_is =
     leaves_by plan moment t h (plan.kind t) sound padded rule own phase_is refl (rule.by.knows t)
 

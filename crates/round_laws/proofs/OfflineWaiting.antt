@@ -24,14 +24,14 @@ use Rattle.rendezvous_rule.specs.View.{View, view, views}
 use Rattle.rendezvous_rule.specs.Seen.{seen, words_of}
 use Rattle.rendezvous_rule.specs.Knows.{Knows}
 use Rattle.rendezvous_rule.specs.Rule.{RuleBy, Gathered}
-use Rattle.rule_laws.specs.Kept.{Kept, event_of}
+use Rattle.rule_laws.specs.Kept.{Kept, event_of, is_step}
 use Rattle.rule_laws.proofs.Count.{same_or_not}
 use Rattle.rule_laws.proofs.Frame.{at_phase, same_numbers, different, not_so, and_both}
 use Rattle.rule_laws.proofs.Tables.{same_view}
 use Rattle.rule_laws.proofs.Later.{later_stage}
-use Rattle.rule_laws.proofs.Step.{Change, step_kept, inner_kept, poll_kept, is_step, stands_in}
+use Rattle.rule_laws.proofs.Step.{Change, step_kept, inner_kept, poll_kept, stands_in}
 use Rattle.rule_laws.proofs.Facts.{state, view_is, is_inside}
-use Rattle.round_laws.specs.OneStep.{KeepsTheRule}
+use Rattle.round_laws.proofs.Kind.{KeepsTheRule}
 use Rattle.round_laws.proofs.Arrivals.{all_offline_here, offline_missing}
 use Rattle.round_laws.proofs.Found.{load_keeps, cas_keeps, dropped_not_0, taken, not_taken}
 use Rattle.round_laws.proofs.Paths.{plain, drop_view, drop_row}
@@ -193,6 +193,7 @@ timeout_by plan moment first (DroppedBy u) at polls mine sound padded rule here 
     finds_drop plan moment first (DroppedBy u) at polls mine sound padded rule here refl
 
 pub offline_wait_step : KeepsTheRule phase.OfflineWait how.Step
+unfolding KeepsTheRule
 offline_wait_step plan moment t sound padded rule phase_is =
     let l = moment.locals t in
     let at_thread = stands_in phase.OfflineWait plan (families moment.words) moment.locals rule.first rule.stage t rule.by phase_is refl in
@@ -205,6 +206,7 @@ offline_wait_step plan moment t sound padded rule phase_is =
     ])
 
 pub offline_wait_timeout : KeepsTheRule phase.OfflineWait how.Timeout
+unfolding KeepsTheRule
 offline_wait_timeout plan moment t sound padded rule phase_is =
     let l = moment.locals t in
     let at_thread = stands_in phase.OfflineWait plan (families moment.words) moment.locals rule.first rule.stage t rule.by phase_is refl in

@@ -22,11 +22,11 @@ use Rattle.rendezvous_rule.specs.View.{View, view, views}
 use Rattle.rendezvous_rule.specs.Seen.{seen, words_of, revision_in}
 use Rattle.rendezvous_rule.specs.Knows.{Knows, Writes, report_of, report_by}
 use Rattle.rendezvous_rule.specs.Rule.{RuleBy}
-use Rattle.rule_laws.specs.Kept.{Kept, event_of}
+use Rattle.rule_laws.specs.Kept.{Kept, event_of, is_step}
 use Rattle.rule_laws.proofs.Frame.{at_phase, primary_is, same_numbers, different}
-use Rattle.rule_laws.proofs.Step.{inner_kept, is_step, stands_in}
+use Rattle.rule_laws.proofs.Step.{inner_kept, stands_in}
 use Rattle.rule_laws.proofs.Facts.{state, view_is, is_inside}
-use Rattle.round_laws.specs.OneStep.{KeepsTheRule}
+use Rattle.round_laws.proofs.Kind.{KeepsTheRule}
 use Rattle.round_laws.proofs.Found.{load_keeps}
 use Rattle.round_laws.proofs.Writing.{own_group, at_going}
 
@@ -166,6 +166,7 @@ checks_kept plan moment t h first at polls mine sound padded rule own here onlin
     (is_inside plan moment.locals first Going nobody t local here refl)
 
 reading_kept : (h : How) → is_step h ≡ true → KeepsTheRule phase.Reading h
+unfolding KeepsTheRule
 reading_kept h own plan moment t sound padded rule phase_is =
     let l = moment.locals t in
     let at_thread = stands_in phase.Reading plan (families moment.words) moment.locals rule.first rule.stage t rule.by phase_is refl in
@@ -175,6 +176,7 @@ reading_kept h own plan moment t sound padded rule phase_is =
     own at_thread.here at_thread.online row.0
 
 checking_kept : (h : How) → is_step h ≡ true → KeepsTheRule phase.Checking h
+unfolding KeepsTheRule
 checking_kept h own plan moment t sound padded rule phase_is =
     let l = moment.locals t in
     let at_thread = stands_in phase.Checking plan (families moment.words) moment.locals rule.first rule.stage t rule.by phase_is refl in

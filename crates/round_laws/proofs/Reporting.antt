@@ -24,12 +24,12 @@ use Rattle.rendezvous_rule.specs.View.{View, view, views}
 use Rattle.rendezvous_rule.specs.Seen.{seen, words_of, mode_code, res_code, revision_in, ctrl_code, has_begun, writes_now}
 use Rattle.rendezvous_rule.specs.Knows.{Knows, report_of, report_by}
 use Rattle.rendezvous_rule.specs.Rule.{RuleBy}
-use Rattle.rule_laws.specs.Kept.{Kept, event_of}
+use Rattle.rule_laws.specs.Kept.{Kept, event_of, is_step}
 use Rattle.rule_laws.proofs.Frame.{at_phase, put_back, primary_is, and_false, same_numbers, different}
-use Rattle.rule_laws.proofs.Step.{step_kept, is_step, stands_in}
+use Rattle.rule_laws.proofs.Step.{step_kept, stands_in}
 use Rattle.rule_laws.proofs.Loops.{past, sibling_begins}
 use Rattle.rule_laws.proofs.Facts.{state, view_is, is_inside, own_round, none_settled}
-use Rattle.round_laws.specs.OneStep.{KeepsTheRule}
+use Rattle.round_laws.proofs.Kind.{KeepsTheRule}
 use Rattle.round_laws.proofs.Freeing.{no_timeout, frees_view, frees_row, report_back, unfreed}
 use Rattle.round_laws.proofs.Groups.{group_change, group_at, told_nobody}
 use Rattle.round_laws.proofs.Reading.{offer_exceeds}
@@ -184,6 +184,7 @@ reports_kept plan moment t h first at polls mine sound padded rule own here onli
     (own_round plan t h (s moment.latched) (next moment.latched) (what.Report g x) own (refl, reports) (refl, reports))
 
 reporting_kept : (h : How) → is_step h ≡ true → KeepsTheRule phase.Reporting h
+unfolding KeepsTheRule
 reporting_kept h own plan moment t sound padded rule phase_is =
     let l = moment.locals t in
     let at_thread = stands_in phase.Reporting plan (families moment.words) moment.locals rule.first rule.stage t rule.by phase_is refl in

@@ -24,11 +24,11 @@ use Rattle.rendezvous_rule.specs.View.{View, view, views, is_timeout}
 use Rattle.rendezvous_rule.specs.Seen.{seen, words_of, revision_in, res_code}
 use Rattle.rendezvous_rule.specs.Knows.{Knows, Ends, ToldApply, ToldDone, report_of, report_by, result_for}
 use Rattle.rendezvous_rule.specs.Rule.{RuleBy}
-use Rattle.rule_laws.specs.Kept.{Kept, event_of}
+use Rattle.rule_laws.specs.Kept.{Kept, event_of, is_step}
 use Rattle.rule_laws.proofs.Frame.{at_phase, same_numbers}
-use Rattle.rule_laws.proofs.Step.{inner_kept, is_step, stands_in}
+use Rattle.rule_laws.proofs.Step.{inner_kept, stands_in}
 use Rattle.rule_laws.proofs.Facts.{state, view_is, is_inside, freed_reported}
-use Rattle.round_laws.specs.OneStep.{KeepsTheRule}
+use Rattle.round_laws.proofs.Kind.{KeepsTheRule}
 use Rattle.round_laws.proofs.Found.{load_keeps}
 use Rattle.round_laws.proofs.Freeing.{leaving}
 use Rattle.round_laws.proofs.Paths.{plain}
@@ -134,6 +134,7 @@ copies_kept plan moment t h first at polls mine sound padded rule own here onlin
     (is_inside plan moment.locals first Going nobody t local here refl)
 
 sibling_check_kept : (h : How) → is_step h ≡ true → KeepsTheRule phase.SiblingCheck h
+unfolding KeepsTheRule
 sibling_check_kept h own plan moment t sound padded rule phase_is =
     let l = moment.locals t in
     let at_thread = stands_in phase.SiblingCheck plan (families moment.words) moment.locals rule.first rule.stage t rule.by phase_is refl in
@@ -143,6 +144,7 @@ sibling_check_kept h own plan moment t sound padded rule phase_is =
     own at_thread.here at_thread.online ((row.0.0, refl), row.1, row.2)
 
 sibling_copy_kept : (h : How) → is_step h ≡ true → KeepsTheRule phase.SiblingCopy h
+unfolding KeepsTheRule
 sibling_copy_kept h own plan moment t sound padded rule phase_is =
     let l = moment.locals t in
     let at_thread = stands_in phase.SiblingCopy plan (families moment.words) moment.locals rule.first rule.stage t rule.by phase_is refl in

@@ -25,16 +25,16 @@ use Rattle.rendezvous_rule.specs.View.{View, view, views, decides_in}
 use Rattle.rendezvous_rule.specs.Seen.{seen, words_of}
 use Rattle.rendezvous_rule.specs.Knows.{Knows}
 use Rattle.rendezvous_rule.specs.Rule.{RuleBy, AllOnlineHere}
-use Rattle.rule_laws.specs.Kept.{Kept, event_of}
+use Rattle.rule_laws.specs.Kept.{Kept, event_of, is_step}
 use Rattle.rule_laws.proofs.Count.{count, count_some, same_or_not}
 use Rattle.rule_laws.proofs.Threads.{count_zero_first}
 use Rattle.rule_laws.proofs.Search.{online_in_range}
 use Rattle.rule_laws.proofs.Frame.{at_phase, and_true}
 use Rattle.rule_laws.proofs.Tables.{same_view}
 use Rattle.rule_laws.proofs.Later.{later_stage}
-use Rattle.rule_laws.proofs.Step.{step_kept, inner_kept, poll_kept, is_step, stands_in}
+use Rattle.rule_laws.proofs.Step.{step_kept, inner_kept, poll_kept, stands_in}
 use Rattle.rule_laws.proofs.Facts.{state, view_is, is_inside}
-use Rattle.round_laws.specs.OneStep.{KeepsTheRule}
+use Rattle.round_laws.proofs.Kind.{KeepsTheRule}
 use Rattle.round_laws.proofs.Found.{load_keeps, cas_keeps, dropped_not_0, dropped_not_1, not_taken}
 use Rattle.round_laws.proofs.Paths.{plain, go_view, go_row, drop_arrived, drop_row, given_anew}
 
@@ -307,6 +307,7 @@ waits_by plan moment t h first (DroppedBy u) at polls mine sound padded rule own
     takes_drop plan moment t h first (DroppedBy u) at polls mine sound padded rule own refl here online
 
 waiting_kept : (h : How) → is_step h ≡ true → KeepsTheRule phase.Waiting h
+unfolding KeepsTheRule
 waiting_kept h own plan moment t sound padded rule phase_is =
     let l = moment.locals t in
     let at_thread = stands_in phase.Waiting plan (families moment.words) moment.locals rule.first rule.stage t rule.by phase_is refl in

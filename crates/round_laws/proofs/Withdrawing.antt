@@ -23,15 +23,15 @@ use Rattle.rendezvous_rule.specs.View.{View, Views, view, views, place_in}
 use Rattle.rendezvous_rule.specs.Seen.{seen, words_of, place_seen, freed_seen, mode_code, ctrl_code, nmi_code, release_code, writes_now}
 use Rattle.rendezvous_rule.specs.Knows.{Knows, OfflineKnows, has_come, report_of}
 use Rattle.rendezvous_rule.specs.Rule.{RuleBy}
-use Rattle.rule_laws.specs.Kept.{Kept, event_of}
+use Rattle.rule_laws.specs.Kept.{Kept, event_of, is_step}
 use Rattle.rule_laws.proofs.Frame.{at_phase, coded, code_kept, put_back, and_false, and_both, not_itself, not_so, another_kind}
 use Rattle.rule_laws.proofs.Tables.{put_view, only_settles, sees_settles}
 use Rattle.rule_laws.proofs.Later.{later_place, later_freed}
-use Rattle.rule_laws.proofs.Step.{Change, step_kept, unseen_kept, inner_kept, inner_round, is_step, stands_in}
+use Rattle.rule_laws.proofs.Step.{Change, step_kept, unseen_kept, inner_kept, inner_round, stands_in}
 use Rattle.rule_laws.proofs.Loops.{past, offline_goes_on, offline_found}
 use Rattle.rule_laws.proofs.Safety.{waits_or_not}
 use Rattle.rule_laws.proofs.Facts.{state, view_is, is_inside, own_round, begun_going, frees_reported}
-use Rattle.round_laws.specs.OneStep.{KeepsTheRule}
+use Rattle.round_laws.proofs.Kind.{KeepsTheRule}
 use Rattle.round_laws.proofs.Found.{cas_keeps, taken, not_taken}
 use Rattle.round_laws.proofs.Freeing.{unfreed}
 
@@ -459,6 +459,7 @@ releases_by plan moment h first stage k polls sound padded rule own here offline
     ]
 
 withdrawing_kept : (h : How) → is_step h ≡ true → KeepsTheRule phase.Withdrawing h
+unfolding KeepsTheRule
 withdrawing_kept h own plan moment t sound padded rule phase_is =
     let l = moment.locals t in
     let at_thread = stands_in phase.Withdrawing plan (families moment.words) moment.locals rule.first rule.stage t rule.by phase_is refl in
@@ -470,6 +471,7 @@ withdrawing_kept h own plan moment t sound padded rule phase_is =
     (withdraws_by plan moment h rule.first rule.stage l.at l.polls sound padded rule.by own here row.0.1 row.1)
 
 releasing_kept : (h : How) → is_step h ≡ true → KeepsTheRule phase.Releasing h
+unfolding KeepsTheRule
 releasing_kept h own plan moment t sound padded rule phase_is =
     let l = moment.locals t in
     let at_thread = stands_in phase.Releasing plan (families moment.words) moment.locals rule.first rule.stage t rule.by phase_is refl in

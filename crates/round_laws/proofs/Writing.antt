@@ -19,11 +19,11 @@ use Rattle.rendezvous_rule.specs.View.{View, view, views}
 use Rattle.rendezvous_rule.specs.Seen.{seen, words_of, mode_code, res_code, revision_in, ctrl_code, has_begun, writes_now}
 use Rattle.rendezvous_rule.specs.Knows.{Knows}
 use Rattle.rendezvous_rule.specs.Rule.{RuleBy}
-use Rattle.rule_laws.specs.Kept.{Kept, event_of}
+use Rattle.rule_laws.specs.Kept.{Kept, event_of, is_step}
 use Rattle.rule_laws.proofs.Frame.{at_phase, put_back, primary_is}
-use Rattle.rule_laws.proofs.Step.{step_kept, is_step, stands_in}
+use Rattle.rule_laws.proofs.Step.{step_kept, stands_in}
 use Rattle.rule_laws.proofs.Facts.{state, view_is, is_inside, own_round}
-use Rattle.round_laws.specs.OneStep.{KeepsTheRule}
+use Rattle.round_laws.proofs.Kind.{KeepsTheRule}
 use Rattle.round_laws.proofs.Groups.{group_change, group_at, with_group, told_same, told_same'}
 
 -- how far the write of its group has come, by what others see of it
@@ -155,6 +155,7 @@ pub at_going :
 at_going plan words locals first stage e rule = subst (λ x. RuleBy plan words locals first x) e rule
 
 beginning_kept : (h : How) → is_step h ≡ true → KeepsTheRule phase.Beginning h
+unfolding KeepsTheRule
 beginning_kept h own plan moment t sound padded rule phase_is =
     let l = moment.locals t in
     let at_thread = stands_in phase.Beginning plan (families moment.words) moment.locals rule.first rule.stage t rule.by phase_is refl in
@@ -164,6 +165,7 @@ beginning_kept h own plan moment t sound padded rule phase_is =
     own at_thread.here at_thread.online row.0 row.2
 
 writing_kept : (h : How) → is_step h ≡ true → KeepsTheRule phase.Writing h
+unfolding KeepsTheRule
 writing_kept h own plan moment t sound padded rule phase_is =
     let l = moment.locals t in
     let at_thread = stands_in phase.Writing plan (families moment.words) moment.locals rule.first rule.stage t rule.by phase_is refl in

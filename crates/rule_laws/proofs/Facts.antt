@@ -20,11 +20,10 @@ use Rattle.rendezvous_rule.specs.Seen.{seen, place_seen, freed_seen}
 use Rattle.rendezvous_model.specs.RoundEnds.{okay_for}
 use Rattle.rendezvous_rule.specs.Knows.{Knows, OnlineKnows, OfflineKnows, Ends, report_of, result_for}
 use Rattle.rendezvous_rule.specs.Rule.{RuleBy}
-use Rattle.rule_laws.specs.Kept.{event_of}
+use Rattle.rule_laws.specs.Kept.{event_of, is_step}
 use Rattle.rule_laws.proofs.Frame.{and_true, not_so, same_numbers, sibling}
 use Rattle.rule_laws.proofs.Tables.{view_at}
 use Rattle.rule_laws.proofs.Assemble.{settled_kicked, number_back, led, lead_write, absent_waits}
-use Rattle.rule_laws.proofs.Step.{is_step}
 
 -- the state that the views make, with nobody latched
 abbrev pub state : Plan → Bool → (ℕ → Local) → Stage → State

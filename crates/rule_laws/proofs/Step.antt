@@ -23,7 +23,7 @@ use Rattle.rendezvous_rule.specs.View.{View, Views, view, views, decides_in}
 use Rattle.rendezvous_rule.specs.Seen.{seen, words_of}
 use Rattle.rendezvous_rule.specs.Knows.{Knows, OnlineKnows, OfflineKnows}
 use Rattle.rendezvous_rule.specs.Rule.{RuleBy, Gathered}
-use Rattle.rule_laws.specs.Kept.{Kept, event_of}
+use Rattle.rule_laws.specs.Kept.{Kept, event_of, is_step}
 use Rattle.rule_laws.proofs.Frame.{put_all, and_both, at_phase, is_at}
 use Rattle.rule_laws.proofs.Tables.{put_view, views_put, same_view}
 use Rattle.rule_laws.proofs.Later.{Later, later_same, still}
@@ -173,12 +173,6 @@ quiet_kept plan moment t h op local new item first first' stage sound padded rul
     words
     knows
     round
-
--- a step or a timeout, and no NMI
-abbrev pub is_step : How → Bool
-is_step how.Step = true
-is_step how.Timeout = true
-is_step how.Nmi = false
 
 -- what nobody else sees, and a poll, are steps of the model that change nothing
 pub inner_round :

@@ -1,5 +1,5 @@
 -- What a step has to keep: the rule, and that its item is a step of the model between the states that are shown.
-use Rattle.std.specs.Prelude.{ℕ}
+use Rattle.std.specs.Prelude.{ℕ, Bool, true, false}
 use Rattle.rendezvous_steps.specs.declared.steps.How.{How}
 use Rattle.rendezvous_steps.specs.declared.steps.How.TheVariants as how
 use Rattle.rendezvous_steps.specs.declared.items.What.{What}
@@ -26,3 +26,9 @@ abbrev pub event_of : How → ℕ → Event
 event_of how.Step t = event.Step t
 event_of how.Timeout t = event.Timeout t
 event_of how.Nmi t = event.Nmi t
+
+-- a step or a timeout, and no NMI
+abbrev pub is_step : How → Bool
+is_step how.Step = true
+is_step how.Timeout = true
+is_step how.Nmi = false
