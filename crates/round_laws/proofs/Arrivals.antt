@@ -1,16 +1,16 @@
 -- One thread more has arrived: what that makes of the counts.
-use Rattle.std.proofs.Common.{◌≡◌, ◌≢◌, ◌⊎◌, ℕ, zero, suc, ◌+◌, ◌-◌, ◌<◌, ◌≤◌, ◌%◌, ◌^◌, Bool, true, false, cond, not, ◌&&◌, ◌==◌, count_by, refl, ap, sym, ◌∙◌, arith, inl, inr, true≢false, eq-zero-or-pos}
+use Rattle.std.proofs.Common.{◌≡◌, ◌≢◌, ℕ, zero, suc, ◌+◌, ◌-◌, ◌<◌, ◌≤◌, ◌%◌, ◌^◌, Bool, true, false, cond, not, ◌&&◌, refl, ap, sym, ◌∙◌, arith}
 use Rattle.rendezvous_steps.specs.declared.steps.Kind.{Kind}
 use Rattle.rendezvous_steps.specs.declared.steps.Kind.TheVariants.{Online, Offline, Absent}
-use Rattle.rendezvous_steps.specs.Plan.{Plan, Sound, is_online, is_offline, threads_from, offline_count}
+use Rattle.rendezvous_steps.specs.Plan.{Plan, Sound, is_online, is_offline, offline_count}
 use Rattle.rendezvous_steps.specs.Padded.{Padded}
 use Rattle.rendezvous_steps.specs.Events.{put}
 use Rattle.rendezvous_model.specs.Round.{still_awaited, offline_arrived}
 use Rattle.rendezvous_rule.specs.Knows.{AllHere}
 use Rattle.rendezvous_rule.specs.Rule.{AllOnlineHere}
-use Rattle.rule_laws.proofs.Count.{count, count_step, count_same, count_less, count_none, count_zero, count_all, same_or_not}
+use Rattle.rule_laws.proofs.Count.{count, count_step, count_same, count_less, count_none, count_zero, count_all}
 use Rattle.rule_laws.proofs.Search.{online_in_range, offline_in_range, is_offline_kind}
-use Rattle.rule_laws.proofs.Frame.{put_same, put_other, and_true, and_both, another_kind, not_so}
+use Rattle.rule_laws.proofs.Frame.{put_same, put_other, and_both, another_kind}
 
 -- Words of counts: one less, one more, within 64 bits.
 

@@ -1,33 +1,31 @@
 -- A thread counts itself in.
-use Rattle.std.proofs.Common.{◌≡◌, ◌≢◌, ℕ, ◌+◌, ◌-◌, ◌<◌, ◌≤◌, ◌%◌, ◌^◌, Bool, true, false, not, ◌&&◌, ◌||◌, ◌==◌, if◌then◌else◌, refl, ap, sym, ◌∙◌, subst, arith, inl, inr, true≢false}
+use Rattle.std.proofs.Common.{◌≡◌, ◌≢◌, ℕ, ◌+◌, ◌-◌, ◌%◌, ◌^◌, Bool, true, false, ◌&&◌, ◌==◌, if◌then◌else◌, refl, ap, sym, ◌∙◌, subst, arith, inl, inr, true≢false}
 use mathlib.Core.Path.{fun_ext}
-use Rattle.rendezvous_steps.specs.declared.steps.Kind.{Kind}
-use Rattle.rendezvous_steps.specs.declared.steps.Kind.TheVariants.{Online, Offline, Absent}
+use Rattle.rendezvous_steps.specs.declared.steps.Kind.TheVariants.{Online}
 use Rattle.rendezvous_steps.specs.declared.steps.Phase.TheVariants as phase
 use Rattle.rendezvous_steps.specs.declared.steps.Local.{Local}
 use Rattle.rendezvous_steps.specs.declared.steps.How.{How}
 use Rattle.rendezvous_steps.specs.declared.steps.How.TheVariants as how
 use Rattle.rendezvous_steps.specs.declared.operations.Word.TheVariants as word
-use Rattle.rendezvous_steps.specs.declared.operations.Op.TheVariants.{Sub, Add}
-use Rattle.rendezvous_steps.specs.declared.items.What.{What}
+use Rattle.rendezvous_steps.specs.declared.operations.Op.TheVariants.{Sub}
 use Rattle.rendezvous_steps.specs.declared.items.What.TheVariants as what
-use Rattle.rendezvous_steps.specs.Plan.{Plan, Sound, is_online, is_offline}
+use Rattle.rendezvous_steps.specs.Plan.{Plan, Sound, is_online}
 use Rattle.rendezvous_steps.specs.Padded.{Padded}
-use Rattle.rendezvous_steps.specs.Words.{Families, families, words_after}
+use Rattle.rendezvous_steps.specs.Words.{Families, families}
 use Rattle.rendezvous_steps.specs.StepTable.{operation, after, to, wait_in}
 use Rattle.rendezvous_steps.specs.Events.{Running, put, steps}
-use Rattle.rendezvous_model.specs.Round.{In, Stage, Gathering, Going, DroppedByKick, DroppedBy, State, nobody, only, is_gathering, still_awaited, offline_arrived}
-use Rattle.rendezvous_model.specs.RoundItems.{Arrives, decider_after, is_last}
+use Rattle.rendezvous_model.specs.Round.{Stage, Going, State, nobody, only, is_gathering, still_awaited}
+use Rattle.rendezvous_model.specs.RoundItems.{Arrives, decider_after}
 use Rattle.rendezvous_rule.specs.View.{View, view, views}
 use Rattle.rendezvous_rule.specs.Seen.{seen, words_of}
-use Rattle.rendezvous_rule.specs.Knows.{Knows, OnlineKnows, AllHere}
+use Rattle.rendezvous_rule.specs.Knows.{Knows, AllHere}
 use Rattle.rendezvous_rule.specs.Rule.{RuleBy, Gathered, AllOnlineHere}
 use Rattle.rule_laws.specs.Kept.{Kept, event_of, is_step}
 use Rattle.rule_laws.proofs.Count.{same_or_not}
-use Rattle.rule_laws.proofs.Frame.{at_phase, put_same, put_other, put_all, put_back, grows, and_true, and_false, equal_numbers, same_numbers, different}
-use Rattle.rule_laws.proofs.Tables.{put_view, only_arrived}
+use Rattle.rule_laws.proofs.Frame.{at_phase, put_same, put_other, put_all, put_back, grows, and_true, equal_numbers, same_numbers, different}
+use Rattle.rule_laws.proofs.Tables.{only_arrived}
 use Rattle.rule_laws.proofs.Later.{later_arrived}
-use Rattle.rule_laws.proofs.Step.{Change, step_kept, stands_in}
+use Rattle.rule_laws.proofs.Step.{step_kept, stands_in}
 use Rattle.rule_laws.proofs.Facts.{state, view_is, is_inside, own_round}
 use Rattle.round_laws.proofs.Kind.{KeepsTheRule}
 use Rattle.round_laws.proofs.Paths.{plain}

@@ -1,9 +1,7 @@
 -- An Offline thread counts itself in.
-use Rattle.std.proofs.Common.{◌≡◌, ◌≢◌, ℕ, ◌+◌, ◌-◌, ◌<◌, ◌≤◌, ◌%◌, ◌^◌, Bool, true, false, not, ◌&&◌, ◌||◌, ◌==◌, if◌then◌else◌, refl, ap, sym, ◌∙◌, subst, inl, inr, true≢false}
-use mathlib.Core.Path.{fun_ext}
-use Rattle.rendezvous_steps.specs.declared.steps.Kind.TheVariants.{Online, Offline}
+use Rattle.std.proofs.Common.{◌≡◌, ◌≢◌, ℕ, ◌+◌, ◌%◌, ◌^◌, Bool, true, false, ◌&&◌, ◌==◌, if◌then◌else◌, refl, ap, sym, ◌∙◌, subst}
+use Rattle.rendezvous_steps.specs.declared.steps.Kind.TheVariants.{Offline}
 use Rattle.rendezvous_steps.specs.declared.steps.Phase.TheVariants as phase
-use Rattle.rendezvous_steps.specs.declared.steps.Local.{Local}
 use Rattle.rendezvous_steps.specs.declared.steps.How.{How}
 use Rattle.rendezvous_steps.specs.declared.steps.How.TheVariants as how
 use Rattle.rendezvous_steps.specs.declared.operations.Word.TheVariants as word
@@ -11,21 +9,20 @@ use Rattle.rendezvous_steps.specs.declared.operations.Op.TheVariants.{Add}
 use Rattle.rendezvous_steps.specs.declared.items.What.TheVariants as what
 use Rattle.rendezvous_steps.specs.Plan.{Plan, Sound, is_online}
 use Rattle.rendezvous_steps.specs.Padded.{Padded}
-use Rattle.rendezvous_steps.specs.Words.{Families, families, words_after}
-use Rattle.rendezvous_steps.specs.StepTable.{operation, after, number_of}
+use Rattle.rendezvous_steps.specs.Words.{Families, families}
+use Rattle.rendezvous_steps.specs.StepTable.{operation, after}
 use Rattle.rendezvous_steps.specs.Events.{Running, put, steps}
-use Rattle.rendezvous_model.specs.Round.{In, Stage, Gathering, Going, State, nobody, only, is_gathering, offline_arrived, still_awaited}
+use Rattle.rendezvous_model.specs.Round.{Stage, nobody, only, is_gathering, offline_arrived, still_awaited}
 use Rattle.rendezvous_model.specs.RoundItems.{Arrives, decider_after}
 use Rattle.rendezvous_rule.specs.View.{View, view, views}
 use Rattle.rendezvous_rule.specs.Seen.{seen, words_of}
-use Rattle.rendezvous_rule.specs.Knows.{Knows, Came, AllHere}
+use Rattle.rendezvous_rule.specs.Knows.{Knows, Came}
 use Rattle.rendezvous_rule.specs.Rule.{RuleBy, Gathered, AllOnlineHere}
 use Rattle.rule_laws.specs.Kept.{Kept, event_of, is_step}
-use Rattle.rule_laws.proofs.Count.{same_or_not}
 use Rattle.rule_laws.proofs.Frame.{at_phase, put_other, put_back, grows, another_kind}
 use Rattle.rule_laws.proofs.Tables.{only_arrived}
 use Rattle.rule_laws.proofs.Later.{later_arrived}
-use Rattle.rule_laws.proofs.Step.{Change, step_kept}
+use Rattle.rule_laws.proofs.Step.{step_kept}
 use Rattle.rule_laws.proofs.Facts.{state, view_is, is_inside, own_round}
 use Rattle.round_laws.proofs.Kind.{KeepsTheRule}
 use Rattle.round_laws.proofs.Arrivals.{one_more, few_arrived, arrived_more, awaited_same}

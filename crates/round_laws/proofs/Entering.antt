@@ -1,5 +1,5 @@
 -- A thread outside: it enters, or an Offline one waits for its kick, or finds that it was taken back.
-use Rattle.std.proofs.Common.{◌≡◌, ◌≢◌, ℕ, ◌+◌, Bool, true, false, not, ◌&&◌, ◌||◌, ◌==◌, nat_lt, if◌then◌else◌, Option, Some, None, refl, ap, sym, ◌∙◌, subst, inl, inr, true≢false}
+use Rattle.std.proofs.Common.{◌≡◌, ◌≢◌, ℕ, Bool, true, false, ◌&&◌, ◌==◌, if◌then◌else◌, Option, Some, None, refl, ap, sym, ◌∙◌, subst, true≢false}
 use mathlib.Core.Path.{fun_ext}
 use Rattle.rendezvous_steps.specs.declared.steps.Kind.{Kind}
 use Rattle.rendezvous_steps.specs.declared.steps.Kind.TheVariants.{Online, Offline, Absent as KindAbsent}
@@ -11,28 +11,27 @@ use Rattle.rendezvous_steps.specs.declared.steps.How.{How}
 use Rattle.rendezvous_steps.specs.declared.steps.How.TheVariants as how
 use Rattle.rendezvous_steps.specs.declared.operations.Word.TheVariants as word
 use Rattle.rendezvous_steps.specs.declared.operations.Op.TheVariants.{Store, Cas}
-use Rattle.rendezvous_steps.specs.declared.items.What.{What}
 use Rattle.rendezvous_steps.specs.declared.items.What.TheVariants as what
 use Rattle.rendezvous_steps.specs.Plan.{Plan, Sound, is_offline, is_primary, offline_from}
 use Rattle.rendezvous_steps.specs.Padded.{Padded}
-use Rattle.rendezvous_steps.specs.Words.{Families, families, words_after}
+use Rattle.rendezvous_steps.specs.Words.{Families, families}
 use Rattle.rendezvous_steps.specs.StepTable.{operation, after, number_of, entered, loop_at, to, enter_operation, after_outside}
 use Rattle.rendezvous_steps.specs.Events.{Running, put, steps}
 use Rattle.rendezvous_model.specs.Round as round
 use Rattle.rendezvous_model.specs.Round.{Place, Out, In, Left, Halted, Withdrawn, Absent, GroupPlace, Waiting, Stage, State, nobody}
 use Rattle.rendezvous_model.specs.RoundItems.{Enters, may_enter}
 use Rattle.rendezvous_model.specs.RoundEnds.{Idles, may_idle, for_kick}
-use Rattle.rendezvous_rule.specs.View.{View, Views, view, views, place_in, write_in, settles_in}
+use Rattle.rendezvous_rule.specs.View.{View, view, views}
 use Rattle.rendezvous_rule.specs.Seen.{seen, words_of, place_seen, freed_seen, mode_code, ctrl_code, nmi_code, has_begun, writes_now}
-use Rattle.rendezvous_rule.specs.Knows.{Knows, OnlineKnows, OfflineKnows, AllHere}
+use Rattle.rendezvous_rule.specs.Knows.{Knows, OfflineKnows}
 use Rattle.rendezvous_rule.specs.Rule.{RuleBy}
 use Rattle.rule_laws.specs.Kept.{Ruled, Kept, event_of, is_step}
 use Rattle.rule_laws.proofs.Assemble.{unsettled, settled_kicked}
-use Rattle.rule_laws.proofs.Frame.{at_phase, is_at, coded, code_kept, and_true, and_false, equal_numbers, same_numbers, different, another_kind}
+use Rattle.rule_laws.proofs.Frame.{at_phase, is_at, coded, code_kept, and_false, equal_numbers, same_numbers, different, another_kind}
 use Rattle.rule_laws.proofs.Tables.{only_place, sees_place_here}
 use Rattle.rule_laws.proofs.Later.{later_place}
-use Rattle.rule_laws.proofs.Step.{Change, step_kept, quiet_kept, poll_kept}
-use Rattle.rule_laws.proofs.Loops.{past, offline_begins, offline_found, none_offline}
+use Rattle.rule_laws.proofs.Step.{step_kept, quiet_kept, poll_kept}
+use Rattle.rule_laws.proofs.Loops.{offline_begins, offline_found, none_offline}
 use Rattle.rule_laws.proofs.Facts.{state, view_is, own_round}
 use Rattle.round_laws.proofs.Kind.{KeepsTheRule}
 use Rattle.round_laws.proofs.Found.{cas_keeps}

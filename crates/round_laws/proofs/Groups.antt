@@ -1,5 +1,5 @@
 -- The write of a group goes on: what its primary's step changes of the words.
-use Rattle.std.proofs.Common.{◌≡◌, ◌≢◌, ℕ, Bool, true, false, ◌&&◌, ◌==◌, refl, ap, sym, ◌∙◌, subst, inl, inr}
+use Rattle.std.proofs.Common.{◌≡◌, ℕ, Bool, true, false, ◌&&◌, refl, ap, sym, ◌∙◌, inl, inr}
 use mathlib.Core.Path.{fun_ext}
 use Rattle.rendezvous_steps.specs.declared.steps.Kind.TheVariants.{Online}
 use Rattle.rendezvous_steps.specs.declared.steps.Local.{Local}
@@ -7,8 +7,8 @@ use Rattle.rendezvous_steps.specs.Plan.{Plan, Sound, is_primary}
 use Rattle.rendezvous_steps.specs.Padded.{Padded}
 use Rattle.rendezvous_steps.specs.Words.{Families}
 use Rattle.rendezvous_steps.specs.Events.{put}
-use Rattle.rendezvous_model.specs.Round.{Place, Out, In, Left, Halted, Withdrawn, Absent, GroupPlace, Waiting, Writing, Written, Reported, Stage, Going, State, nobody}
-use Rattle.rendezvous_rule.specs.View.{View, Views, view, views}
+use Rattle.rendezvous_model.specs.Round.{Place, Out, In, Left, Halted, Withdrawn, Absent, GroupPlace, Waiting, Writing, Written, Going, State}
+use Rattle.rendezvous_rule.specs.View.{View, view, views}
 use Rattle.rendezvous_rule.specs.Seen.{seen, words_of, mode_code, ctrl_code, res_code, revision_in, writes_now, has_begun}
 use Rattle.rendezvous_rule.specs.Rule.{RuleBy}
 use Rattle.rule_laws.proofs.Count.{same_or_not}

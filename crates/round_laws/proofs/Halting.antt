@@ -1,8 +1,7 @@
 -- A thread that waits to be freed: it polls, goes on where it was freed, or out of patience halts.
-use Rattle.std.proofs.Common.{◌≡◌, ◌≢◌, ◌⊎◌, ℕ, Bool, true, false, not, ◌&&◌, ◌||◌, ◌==◌, if◌then◌else◌, Option, Some, None, refl, ap, sym, ◌∙◌, subst, inl, inr, true≢false}
+use Rattle.std.proofs.Common.{◌≡◌, ℕ, Bool, true, false, not, ◌&&◌, ◌==◌, if◌then◌else◌, Option, Some, None, refl, ap, sym, ◌∙◌, subst, true≢false}
 use Rattle.rendezvous_steps.specs.declared.steps.Kind.{Kind}
 use Rattle.rendezvous_steps.specs.declared.steps.Kind.TheVariants.{Online, Offline, Absent as KindAbsent}
-use Rattle.rendezvous_steps.specs.declared.steps.ThreadResult.{ThreadResult}
 use Rattle.rendezvous_steps.specs.declared.steps.ThreadResult.TheVariants as results
 use Rattle.rendezvous_steps.specs.declared.steps.Phase.TheVariants as phase
 use Rattle.rendezvous_steps.specs.declared.steps.Local.{Local}
@@ -11,25 +10,24 @@ use Rattle.rendezvous_steps.specs.declared.steps.How.TheVariants as how
 use Rattle.rendezvous_steps.specs.declared.operations.Word.TheVariants as word
 use Rattle.rendezvous_steps.specs.declared.operations.Op.{Op}
 use Rattle.rendezvous_steps.specs.declared.operations.Op.TheVariants.{Load, Cas}
-use Rattle.rendezvous_steps.specs.declared.items.What.{What}
 use Rattle.rendezvous_steps.specs.declared.items.What.TheVariants as what
 use Rattle.rendezvous_steps.specs.Plan.{Plan, Sound, is_primary}
 use Rattle.rendezvous_steps.specs.Padded.{Padded}
 use Rattle.rendezvous_steps.specs.Words.{Families, families, touched, words_after}
-use Rattle.rendezvous_steps.specs.StepTable.{operation, operation_in, after, after_in, number_of, to, polled, by_release}
+use Rattle.rendezvous_steps.specs.StepTable.{operation, after, to, polled, by_release}
 use Rattle.rendezvous_steps.specs.Events.{Running, put, steps}
 use Rattle.rendezvous_model.specs.Round as round
 use Rattle.rendezvous_model.specs.Round.{Place, Out, In, Left, Halted, Withdrawn, Absent, GroupPlace, Waiting, Writing, Written, Reported, Stage, Going, State, nobody}
-use Rattle.rendezvous_model.specs.RoundEnds.{Halts, may_halt, MayWait, for_primary, to_be_freed}
+use Rattle.rendezvous_model.specs.RoundEnds.{Halts, may_halt, for_primary, to_be_freed}
 use Rattle.rendezvous_rule.specs.View.{View, view, views, is_timeout}
-use Rattle.rendezvous_rule.specs.Seen.{seen, words_of, place_seen, freed_seen, mode_code, ctrl_code, nmi_code, release_code, writes_now}
+use Rattle.rendezvous_rule.specs.Seen.{seen, words_of, mode_code, ctrl_code, nmi_code, release_code, writes_now}
 use Rattle.rendezvous_rule.specs.Knows.{Knows, Came, report_of, report_by}
 use Rattle.rendezvous_rule.specs.Rule.{RuleBy}
 use Rattle.rule_laws.specs.Kept.{Kept, event_of, is_step}
 use Rattle.rule_laws.proofs.Frame.{at_phase, coded, code_kept, offline_leads_not}
 use Rattle.rule_laws.proofs.Tables.{only_place, sees_place_here}
 use Rattle.rule_laws.proofs.Later.{later_place}
-use Rattle.rule_laws.proofs.Step.{Change, step_kept, inner_kept, poll_kept, stands_in}
+use Rattle.rule_laws.proofs.Step.{step_kept, inner_kept, poll_kept, stands_in}
 use Rattle.rule_laws.proofs.Facts.{state, view_is, is_inside, freed_reported}
 use Rattle.round_laws.proofs.Kind.{KeepsTheRule}
 use Rattle.round_laws.proofs.Found.{load_keeps, cas_keeps, not_taken}

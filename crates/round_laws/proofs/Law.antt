@@ -1,5 +1,5 @@
 -- The law on one step, from each kind of step.
-use Rattle.std.proofs.Common.{◌≡◌, ℕ, Bool, true, false, Some, refl, ap, sym, ◌∙◌, subst}
+use Rattle.std.proofs.Common.{◌≡◌, ℕ, true, false, Some, refl, ap, sym, ◌∙◌, subst}
 use Rattle.rendezvous_steps.specs.declared.steps.Phase.{Phase}
 use Rattle.rendezvous_steps.specs.declared.steps.Phase.TheVariants as phase
 use Rattle.rendezvous_steps.specs.declared.steps.Local.{Local}

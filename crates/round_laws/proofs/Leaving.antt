@@ -1,5 +1,5 @@
 -- A thread leaves: a primary or a sibling after a go, an Online thread after a drop, or an Offline thread.
-use Rattle.std.proofs.Common.{◌≡◌, ◌≢◌, ℕ, ◌+◌, Bool, true, false, not, ◌&&◌, ◌||◌, ◌==◌, if◌then◌else◌, Some, refl, ap, sym, ◌∙◌, subst, inl, inr, true≢false}
+use Rattle.std.proofs.Common.{◌≡◌, ◌≢◌, ℕ, ◌+◌, Bool, true, false, not, ◌&&◌, ◌||◌, ◌==◌, if◌then◌else◌, Some, refl, ap, sym, ◌∙◌, subst, true≢false}
 use Rattle.rendezvous_steps.specs.declared.steps.Kind.{Kind}
 use Rattle.rendezvous_steps.specs.declared.steps.Kind.TheVariants.{Online, Offline, Absent as KindAbsent}
 use Rattle.rendezvous_steps.specs.declared.steps.ThreadResult.{ThreadResult}
@@ -15,12 +15,12 @@ use Rattle.rendezvous_steps.specs.declared.items.What.{What}
 use Rattle.rendezvous_steps.specs.declared.items.What.TheVariants as what
 use Rattle.rendezvous_steps.specs.Plan.{Plan, Sound, is_offline, is_absent, is_primary, is_sibling}
 use Rattle.rendezvous_steps.specs.Padded.{Padded}
-use Rattle.rendezvous_steps.specs.Words.{Families, families, words_after}
+use Rattle.rendezvous_steps.specs.Words.{Families, families}
 use Rattle.rendezvous_steps.specs.StepTable.{operation, after, number_of, result_of, told}
 use Rattle.rendezvous_steps.specs.Events.{Running, put, steps}
-use Rattle.rendezvous_model.specs.Round.{Place, Out, In, Left, Halted, Withdrawn, Absent, GroupPlace, Waiting, Reported, Stage, Going, State, nobody, is_dropped, is_halted, is_withdrawn}
+use Rattle.rendezvous_model.specs.Round.{Place, Out, In, Left, Halted, Withdrawn, Absent, Waiting, Reported, Stage, State, nobody, is_dropped, is_halted, is_withdrawn}
 use Rattle.rendezvous_model.specs.RoundEnds.{Leaves, MayLeave, as_primary, as_sibling, after_drop, as_offline, okay_for, passed_on}
-use Rattle.rendezvous_rule.specs.View.{View, Views, view, views, place_in, is_timeout}
+use Rattle.rendezvous_rule.specs.View.{View, view, views, place_in, is_timeout}
 use Rattle.rendezvous_rule.specs.Seen.{seen, words_of, place_seen, freed_seen, mode_code, ctrl_code, nmi_code, writes_now}
 use Rattle.rendezvous_rule.specs.Knows.{Knows, OnlineKnows, OfflineKnows, CameAndFreed, Ends, report_of, result_for}
 use Rattle.rendezvous_rule.specs.Rule.{RuleBy}
@@ -29,7 +29,7 @@ use Rattle.rule_laws.proofs.Assemble.{number_back}
 use Rattle.rule_laws.proofs.Frame.{at_phase, is_at, coded, code_kept, and_both, same_numbers, equal_numbers, leads_sibling}
 use Rattle.rule_laws.proofs.Tables.{only_place, sees_place}
 use Rattle.rule_laws.proofs.Later.{later_place}
-use Rattle.rule_laws.proofs.Step.{Change, step_kept}
+use Rattle.rule_laws.proofs.Step.{step_kept}
 use Rattle.rule_laws.proofs.Facts.{state, view_is, is_inside, own_round, freed_reported}
 use Rattle.round_laws.proofs.Kind.{KeepsTheRule}
 use Rattle.round_laws.proofs.Writing.{own_group}

@@ -1,40 +1,35 @@
 -- Thread 0 waits for the kicked threads: it goes on when all have come, polls, or gives up on them.
-use Rattle.std.proofs.Common.{◌≡◌, ◌≢◌, ◌⊎◌, ℕ, ◌<◌, Bool, true, false, not, ◌&&◌, ◌||◌, ◌==◌, if◌then◌else◌, Some, refl, ap, sym, ◌∙◌, subst, inl, inr, true≢false}
+use Rattle.std.proofs.Common.{◌≡◌, ◌≢◌, ℕ, ◌<◌, Bool, true, false, ◌==◌, if◌then◌else◌, refl, ap, sym, ◌∙◌, subst, inl, inr, true≢false}
 use mathlib.Core.Path.{fun_ext}
-use Rattle.rendezvous_steps.specs.declared.steps.Kind.TheVariants.{Online, Offline}
 use Rattle.rendezvous_steps.specs.declared.steps.Phase.TheVariants as phase
-use Rattle.rendezvous_steps.specs.declared.steps.Local.{Local}
-use Rattle.rendezvous_steps.specs.declared.steps.How.{How}
 use Rattle.rendezvous_steps.specs.declared.steps.How.TheVariants as how
 use Rattle.rendezvous_steps.specs.declared.operations.Word.TheVariants as word
 use Rattle.rendezvous_steps.specs.declared.operations.Op.TheVariants.{Load, Cas}
-use Rattle.rendezvous_steps.specs.declared.items.What.{What}
 use Rattle.rendezvous_steps.specs.declared.items.What.TheVariants as what
 use Rattle.rendezvous_steps.specs.Plan.{Plan, Sound, is_offline, offline_count}
 use Rattle.rendezvous_steps.specs.Padded.{Padded}
-use Rattle.rendezvous_steps.specs.Words.{Families, families, words_after}
+use Rattle.rendezvous_steps.specs.Words.{Families, families}
 use Rattle.rendezvous_steps.specs.StepTable.{operation, after, drop_path, polled, to}
-use Rattle.rendezvous_steps.specs.Events.{Running, put, steps}
+use Rattle.rendezvous_steps.specs.Events.{Running, steps}
 use Rattle.rendezvous_model.specs.Round as round
 use Rattle.rendezvous_model.specs.Round.{In, Stage, Gathering, Going, DroppedByKick, DroppedBy, State, nobody, is_dropped, offline_arrived}
 use Rattle.rendezvous_model.specs.RoundItems.{DropsByKick}
 use Rattle.rendezvous_model.specs.RoundEnds.{for_offline}
-use Rattle.rendezvous_model.specs.Outcome.{decide_of}
 use Rattle.rendezvous_rule.specs.View.{View, view, views}
 use Rattle.rendezvous_rule.specs.Seen.{seen, words_of}
 use Rattle.rendezvous_rule.specs.Knows.{Knows}
-use Rattle.rendezvous_rule.specs.Rule.{RuleBy, Gathered}
-use Rattle.rule_laws.specs.Kept.{Kept, event_of, is_step}
+use Rattle.rendezvous_rule.specs.Rule.{RuleBy}
+use Rattle.rule_laws.specs.Kept.{Kept, event_of}
 use Rattle.rule_laws.proofs.Count.{same_or_not}
 use Rattle.rule_laws.proofs.Frame.{at_phase, same_numbers, different, not_so, and_both}
 use Rattle.rule_laws.proofs.Tables.{same_view}
 use Rattle.rule_laws.proofs.Later.{later_stage}
-use Rattle.rule_laws.proofs.Step.{Change, step_kept, inner_kept, poll_kept, stands_in}
+use Rattle.rule_laws.proofs.Step.{step_kept, inner_kept, poll_kept, stands_in}
 use Rattle.rule_laws.proofs.Facts.{state, view_is, is_inside}
 use Rattle.round_laws.proofs.Kind.{KeepsTheRule}
 use Rattle.round_laws.proofs.Arrivals.{all_offline_here, offline_missing}
 use Rattle.round_laws.proofs.Found.{load_keeps, cas_keeps, dropped_not_0, taken, not_taken}
-use Rattle.round_laws.proofs.Paths.{plain, drop_view, drop_row}
+use Rattle.round_laws.proofs.Paths.{drop_view, drop_row}
 
 -- all have come: it goes on
 goes_on_kept :

@@ -1,5 +1,5 @@
 -- A primary reads its group's revision: before its write, whether the offer exceeds it, and after, whether the write was taken.
-use Rattle.std.proofs.Common.{◌≡◌, ◌≢◌, ◌⊎◌, ℕ, ◌<◌, Bool, true, false, ◌&&◌, ◌==◌, nat_lt, if◌then◌else◌, Option, Some, None, is_some, unwrap_or, refl, ap, sym, ◌∙◌, subst, arith, inl, inr}
+use Rattle.std.proofs.Common.{◌≡◌, ℕ, ◌<◌, Bool, true, false, ◌==◌, nat_lt, if◌then◌else◌, Option, Some, None, is_some, unwrap_or, refl, ap, sym, ◌∙◌, subst, arith, inl, inr}
 use Rattle.std.proofs.lemmas.Bool.{cases_lt}
 use Rattle.std.proofs.lemmas.Bool.Decides.{nat_tests}
 use Rattle.rendezvous_steps.specs.declared.steps.Kind.TheVariants.{Online}
@@ -14,18 +14,18 @@ use Rattle.rendezvous_steps.specs.declared.items.What.{What}
 use Rattle.rendezvous_steps.specs.declared.items.What.TheVariants as what
 use Rattle.rendezvous_steps.specs.Plan.{Plan, Sound, is_primary, offer_or_rev0}
 use Rattle.rendezvous_steps.specs.Padded.{Padded}
-use Rattle.rendezvous_steps.specs.Words.{Families, families, words_after}
+use Rattle.rendezvous_steps.specs.Words.{Families, families}
 use Rattle.rendezvous_steps.specs.StepTable.{operation, after, exceeds, with_result, number_of, write_of}
-use Rattle.rendezvous_steps.specs.Events.{Running, put, steps}
-use Rattle.rendezvous_model.specs.Round.{In, Waiting, Written, Stage, Going, State, nobody}
-use Rattle.rendezvous_rule.specs.View.{View, view, views}
-use Rattle.rendezvous_rule.specs.Seen.{seen, words_of, revision_in}
-use Rattle.rendezvous_rule.specs.Knows.{Knows, Writes, report_of, report_by}
+use Rattle.rendezvous_steps.specs.Events.{Running, steps}
+use Rattle.rendezvous_model.specs.Round.{Waiting, Written, Going, nobody}
+use Rattle.rendezvous_rule.specs.View.{view}
+use Rattle.rendezvous_rule.specs.Seen.{words_of, revision_in}
+use Rattle.rendezvous_rule.specs.Knows.{Knows, report_of, report_by}
 use Rattle.rendezvous_rule.specs.Rule.{RuleBy}
 use Rattle.rule_laws.specs.Kept.{Kept, event_of, is_step}
-use Rattle.rule_laws.proofs.Frame.{at_phase, primary_is, same_numbers, different}
+use Rattle.rule_laws.proofs.Frame.{at_phase, same_numbers, different}
 use Rattle.rule_laws.proofs.Step.{inner_kept, stands_in}
-use Rattle.rule_laws.proofs.Facts.{state, view_is, is_inside}
+use Rattle.rule_laws.proofs.Facts.{state, is_inside}
 use Rattle.round_laws.proofs.Kind.{KeepsTheRule}
 use Rattle.round_laws.proofs.Found.{load_keeps}
 use Rattle.round_laws.proofs.Writing.{own_group, at_going}

@@ -1,34 +1,31 @@
 -- A primary reports its result.
-use Rattle.std.proofs.Common.{◌≡◌, ◌≢◌, ℕ, ◌+◌, Bool, true, false, not, ◌&&◌, ◌||◌, ◌==◌, if◌then◌else◌, Option, Some, None, unwrap_or, refl, ap, sym, ◌∙◌, subst, arith, true≢false}
-use mathlib.Core.Path.{fun_ext}
+use Rattle.std.proofs.Common.{◌≡◌, ℕ, Bool, true, false, ◌&&◌, ◌==◌, if◌then◌else◌, Option, Some, None, unwrap_or, refl, ap, sym, ◌∙◌, subst, arith}
 use Rattle.rendezvous_steps.specs.declared.steps.Kind.TheVariants.{Online}
 use Rattle.rendezvous_steps.specs.declared.steps.ThreadResult.{ThreadResult}
 use Rattle.rendezvous_steps.specs.declared.steps.ThreadResult.TheVariants as results
 use Rattle.rendezvous_steps.specs.declared.steps.Phase.TheVariants as phase
-use Rattle.rendezvous_steps.specs.declared.steps.Local.{Local}
 use Rattle.rendezvous_steps.specs.declared.steps.How.{How}
 use Rattle.rendezvous_steps.specs.declared.steps.How.TheVariants as how
 use Rattle.rendezvous_steps.specs.declared.operations.Word.TheVariants as word
 use Rattle.rendezvous_steps.specs.declared.operations.Op.TheVariants.{Store}
-use Rattle.rendezvous_steps.specs.declared.items.What.{What}
 use Rattle.rendezvous_steps.specs.declared.items.What.TheVariants as what
-use Rattle.rendezvous_steps.specs.Plan.{Plan, Sound, is_offline, is_primary, is_sibling, sibling_from}
+use Rattle.rendezvous_steps.specs.Plan.{Plan, Sound, is_primary, is_sibling, sibling_from}
 use Rattle.rendezvous_steps.specs.Padded.{Padded}
 use Rattle.rendezvous_steps.specs.Words.{Families, families, words_after}
 use Rattle.rendezvous_steps.specs.StepTable.{operation, after, number_of, result_of, told, free_at, write_of}
 use Rattle.rendezvous_steps.specs.Events.{Running, put, steps}
-use Rattle.rendezvous_model.specs.Round.{In, GroupPlace, Waiting, Written, Reported, Stage, Going, State, nobody}
+use Rattle.rendezvous_model.specs.Round.{GroupPlace, Waiting, Written, Reported, Going, nobody}
 use Rattle.rendezvous_model.specs.RoundItems as items
 use Rattle.rendezvous_model.specs.RoundItems.{Reports as ReportsItem}
 use Rattle.rendezvous_rule.specs.View.{View, view, views}
-use Rattle.rendezvous_rule.specs.Seen.{seen, words_of, mode_code, res_code, revision_in, ctrl_code, has_begun, writes_now}
+use Rattle.rendezvous_rule.specs.Seen.{seen, words_of, mode_code, revision_in, ctrl_code, has_begun}
 use Rattle.rendezvous_rule.specs.Knows.{Knows, report_of, report_by}
 use Rattle.rendezvous_rule.specs.Rule.{RuleBy}
 use Rattle.rule_laws.specs.Kept.{Kept, event_of, is_step}
 use Rattle.rule_laws.proofs.Frame.{at_phase, put_back, primary_is, and_false, same_numbers, different}
 use Rattle.rule_laws.proofs.Step.{step_kept, stands_in}
-use Rattle.rule_laws.proofs.Loops.{past, sibling_begins}
-use Rattle.rule_laws.proofs.Facts.{state, view_is, is_inside, own_round, none_settled}
+use Rattle.rule_laws.proofs.Loops.{sibling_begins}
+use Rattle.rule_laws.proofs.Facts.{view_is, is_inside, own_round, none_settled}
 use Rattle.round_laws.proofs.Kind.{KeepsTheRule}
 use Rattle.round_laws.proofs.Freeing.{no_timeout, frees_view, frees_row, report_back, unfreed}
 use Rattle.round_laws.proofs.Groups.{group_change, group_at, told_nobody}

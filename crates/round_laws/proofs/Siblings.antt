@@ -1,33 +1,30 @@
 -- A sibling waits for its primary, and takes what it is told.
-use Rattle.std.proofs.Common.{◌≡◌, ◌≢◌, ◌⊎◌, ℕ, Bool, true, false, not, ◌&&◌, ◌||◌, ◌==◌, if◌then◌else◌, Option, Some, None, unwrap_or, refl, ap, sym, ◌∙◌, subst, inl, inr, true≢false}
-use Rattle.std.proofs.lemmas.Bool.Decides.{nat_tests}
+use Rattle.std.proofs.Common.{◌≡◌, ◌≢◌, ℕ, Bool, true, false, ◌&&◌, if◌then◌else◌, Option, Some, None, unwrap_or, refl, ap, sym, ◌∙◌, subst}
 use Rattle.rendezvous_steps.specs.declared.steps.Kind.TheVariants.{Online}
-use Rattle.rendezvous_steps.specs.declared.steps.ThreadResult.{ThreadResult}
 use Rattle.rendezvous_steps.specs.declared.steps.ThreadResult.TheVariants as results
 use Rattle.rendezvous_steps.specs.declared.steps.Phase.TheVariants as phase
 use Rattle.rendezvous_steps.specs.declared.steps.Local.{Local}
 use Rattle.rendezvous_steps.specs.declared.steps.How.{How}
 use Rattle.rendezvous_steps.specs.declared.steps.How.TheVariants as how
 use Rattle.rendezvous_steps.specs.declared.operations.Word.TheVariants as word
-use Rattle.rendezvous_steps.specs.declared.operations.Op.{Op}
-use Rattle.rendezvous_steps.specs.declared.operations.Op.TheVariants.{Load, Cas}
+use Rattle.rendezvous_steps.specs.declared.operations.Op.TheVariants.{Load}
 use Rattle.rendezvous_steps.specs.declared.items.What.{What}
 use Rattle.rendezvous_steps.specs.declared.items.What.TheVariants as what
-use Rattle.rendezvous_steps.specs.Plan.{Plan, Sound, is_offline, is_primary, is_sibling, offer_or_rev0}
+use Rattle.rendezvous_steps.specs.Plan.{Plan, Sound, is_primary, is_sibling, offer_or_rev0}
 use Rattle.rendezvous_steps.specs.Padded.{Padded}
-use Rattle.rendezvous_steps.specs.Words.{Families, families, touched, words_after}
+use Rattle.rendezvous_steps.specs.Words.{Families, families}
 use Rattle.rendezvous_steps.specs.StepTable.{operation, after, number_of, result_of, told, with_result, write_of}
-use Rattle.rendezvous_steps.specs.Events.{Running, put, steps}
-use Rattle.rendezvous_model.specs.Round.{In, GroupPlace, Waiting, Reported, Stage, Going, State, nobody}
+use Rattle.rendezvous_steps.specs.Events.{Running, steps}
+use Rattle.rendezvous_model.specs.Round.{Waiting, Reported, Going, nobody}
 use Rattle.rendezvous_model.specs.RoundEnds.{okay_for}
-use Rattle.rendezvous_rule.specs.View.{View, view, views, is_timeout}
-use Rattle.rendezvous_rule.specs.Seen.{seen, words_of, revision_in, res_code}
+use Rattle.rendezvous_rule.specs.View.{View, view, is_timeout}
+use Rattle.rendezvous_rule.specs.Seen.{words_of, revision_in, res_code}
 use Rattle.rendezvous_rule.specs.Knows.{Knows, Ends, ToldApply, ToldDone, report_of, report_by, result_for}
 use Rattle.rendezvous_rule.specs.Rule.{RuleBy}
 use Rattle.rule_laws.specs.Kept.{Kept, event_of, is_step}
 use Rattle.rule_laws.proofs.Frame.{at_phase, same_numbers}
 use Rattle.rule_laws.proofs.Step.{inner_kept, stands_in}
-use Rattle.rule_laws.proofs.Facts.{state, view_is, is_inside, freed_reported}
+use Rattle.rule_laws.proofs.Facts.{state, is_inside, freed_reported}
 use Rattle.round_laws.proofs.Kind.{KeepsTheRule}
 use Rattle.round_laws.proofs.Found.{load_keeps}
 use Rattle.round_laws.proofs.Freeing.{leaving}

@@ -1,5 +1,5 @@
 -- Thread 0 after a drop: it takes back the kick of each Offline thread, and releases those that came.
-use Rattle.std.proofs.Common.{◌≡◌, ◌≢◌, ◌⊎◌, ℕ, ◌+◌, Bool, true, false, not, ◌&&◌, ◌||◌, ◌==◌, nat_lt, if◌then◌else◌, Option, Some, None, refl, ap, sym, ◌∙◌, subst, inl, inr, true≢false}
+use Rattle.std.proofs.Common.{◌≡◌, ◌≢◌, ◌⊎◌, ℕ, ◌+◌, Bool, true, false, ◌&&◌, ◌||◌, ◌==◌, nat_lt, if◌then◌else◌, Option, Some, None, refl, ap, sym, ◌∙◌, subst, inl, inr, true≢false}
 use mathlib.Core.Path.{fun_ext}
 use Rattle.rendezvous_steps.specs.declared.steps.Kind.{Kind}
 use Rattle.rendezvous_steps.specs.declared.steps.Kind.TheVariants.{Online, Offline}
@@ -10,16 +10,15 @@ use Rattle.rendezvous_steps.specs.declared.steps.How.{How}
 use Rattle.rendezvous_steps.specs.declared.steps.How.TheVariants as how
 use Rattle.rendezvous_steps.specs.declared.operations.Word.TheVariants as word
 use Rattle.rendezvous_steps.specs.declared.operations.Op.TheVariants.{Cas}
-use Rattle.rendezvous_steps.specs.declared.items.What.{What}
 use Rattle.rendezvous_steps.specs.declared.items.What.TheVariants as what
-use Rattle.rendezvous_steps.specs.Plan.{Plan, Sound, is_offline, is_primary, offline_from}
+use Rattle.rendezvous_steps.specs.Plan.{Plan, Sound, is_offline, offline_from}
 use Rattle.rendezvous_steps.specs.Padded.{Padded}
-use Rattle.rendezvous_steps.specs.Words.{Families, families, words_after}
-use Rattle.rendezvous_steps.specs.StepTable.{operation, after, withdraw_at, to}
+use Rattle.rendezvous_steps.specs.Words.{Families, families}
+use Rattle.rendezvous_steps.specs.StepTable.{operation, after, withdraw_at}
 use Rattle.rendezvous_steps.specs.Events.{Running, put, steps}
-use Rattle.rendezvous_model.specs.Round.{Place, Out, In, Left, Halted, Withdrawn, Absent, GroupPlace, Waiting, Reported, Stage, Going, State, nobody, is_dropped}
-use Rattle.rendezvous_model.specs.RoundItems.{Withdraws, Frees, FreesOffline}
-use Rattle.rendezvous_rule.specs.View.{View, Views, view, views, place_in}
+use Rattle.rendezvous_model.specs.Round.{Place, Out, In, Left, Halted, Withdrawn, Absent, Waiting, Reported, Stage, Going, State, nobody, is_dropped}
+use Rattle.rendezvous_model.specs.RoundItems.{Withdraws, Frees}
+use Rattle.rendezvous_rule.specs.View.{View, view, views, place_in}
 use Rattle.rendezvous_rule.specs.Seen.{seen, words_of, place_seen, freed_seen, mode_code, ctrl_code, nmi_code, release_code, writes_now}
 use Rattle.rendezvous_rule.specs.Knows.{Knows, OfflineKnows, has_come, report_of}
 use Rattle.rendezvous_rule.specs.Rule.{RuleBy}
@@ -27,12 +26,12 @@ use Rattle.rule_laws.specs.Kept.{Kept, event_of, is_step}
 use Rattle.rule_laws.proofs.Frame.{at_phase, coded, code_kept, put_back, and_false, and_both, not_itself, not_so, another_kind}
 use Rattle.rule_laws.proofs.Tables.{put_view, only_settles, sees_settles}
 use Rattle.rule_laws.proofs.Later.{later_place, later_freed}
-use Rattle.rule_laws.proofs.Step.{Change, step_kept, unseen_kept, inner_kept, inner_round, stands_in}
+use Rattle.rule_laws.proofs.Step.{step_kept, unseen_kept, inner_kept, inner_round, stands_in}
 use Rattle.rule_laws.proofs.Loops.{past, offline_goes_on, offline_found}
 use Rattle.rule_laws.proofs.Safety.{waits_or_not}
 use Rattle.rule_laws.proofs.Facts.{state, view_is, is_inside, own_round, begun_going, frees_reported}
 use Rattle.round_laws.proofs.Kind.{KeepsTheRule}
-use Rattle.round_laws.proofs.Found.{cas_keeps, taken, not_taken}
+use Rattle.round_laws.proofs.Found.{cas_keeps}
 use Rattle.round_laws.proofs.Freeing.{unfreed}
 
 -- What others see of it: whom it is done with.

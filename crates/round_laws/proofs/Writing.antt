@@ -1,5 +1,5 @@
 -- A primary begins its group's write, and writes.
-use Rattle.std.proofs.Common.{◌≡◌, ◌≢◌, ℕ, ◌<◌, Bool, true, false, ◌&&◌, ◌==◌, if◌then◌else◌, Option, Some, None, is_some, unwrap_or, refl, ap, sym, ◌∙◌, subst, true≢false}
+use Rattle.std.proofs.Common.{◌≡◌, ℕ, Bool, true, false, ◌&&◌, if◌then◌else◌, Option, Some, None, is_some, unwrap_or, refl, ap, sym, ◌∙◌, subst}
 use Rattle.rendezvous_steps.specs.declared.steps.Kind.TheVariants.{Online}
 use Rattle.rendezvous_steps.specs.declared.steps.Phase.TheVariants as phase
 use Rattle.rendezvous_steps.specs.declared.steps.Local.{Local}
@@ -11,20 +11,20 @@ use Rattle.rendezvous_steps.specs.declared.items.What.TheVariants as what
 use Rattle.rendezvous_steps.specs.Plan.{Plan, Sound, is_primary}
 use Rattle.rendezvous_steps.specs.Padded.{Padded}
 use Rattle.rendezvous_steps.specs.Words.{Families, families, words_after}
-use Rattle.rendezvous_steps.specs.StepTable.{operation, after, to, write_of}
+use Rattle.rendezvous_steps.specs.StepTable.{operation, after, write_of}
 use Rattle.rendezvous_steps.specs.Events.{Running, put, steps}
-use Rattle.rendezvous_model.specs.Round.{In, GroupPlace, Waiting, Writing, Written, Stage, Gathering, Going, DroppedByKick, DroppedBy, State, nobody}
+use Rattle.rendezvous_model.specs.Round.{GroupPlace, Waiting, Writing, Written, Stage, Going, nobody}
 use Rattle.rendezvous_model.specs.RoundItems.{Begins, Writes}
 use Rattle.rendezvous_rule.specs.View.{View, view, views}
-use Rattle.rendezvous_rule.specs.Seen.{seen, words_of, mode_code, res_code, revision_in, ctrl_code, has_begun, writes_now}
+use Rattle.rendezvous_rule.specs.Seen.{seen, words_of, mode_code, res_code, revision_in, ctrl_code, has_begun}
 use Rattle.rendezvous_rule.specs.Knows.{Knows}
 use Rattle.rendezvous_rule.specs.Rule.{RuleBy}
 use Rattle.rule_laws.specs.Kept.{Kept, event_of, is_step}
 use Rattle.rule_laws.proofs.Frame.{at_phase, put_back, primary_is}
 use Rattle.rule_laws.proofs.Step.{step_kept, stands_in}
-use Rattle.rule_laws.proofs.Facts.{state, view_is, is_inside, own_round}
+use Rattle.rule_laws.proofs.Facts.{view_is, is_inside, own_round}
 use Rattle.round_laws.proofs.Kind.{KeepsTheRule}
-use Rattle.round_laws.proofs.Groups.{group_change, group_at, with_group, told_same, told_same'}
+use Rattle.round_laws.proofs.Groups.{group_change, group_at, told_same, told_same'}
 
 -- how far the write of its group has come, by what others see of it
 pub own_group :
