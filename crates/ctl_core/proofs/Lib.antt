@@ -6,3 +6,4 @@ pub mod Over
 pub mod Searches
 pub mod Shown
 pub mod Plays
+pub mod Grows

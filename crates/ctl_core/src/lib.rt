@@ -10,12 +10,19 @@ mod item_lines;
 mod looks;
 mod moments;
 mod outcomes;
+mod ranges;
 mod runs;
 mod schedules;
 
 pub use cores::Core;
 pub use ctl_words::Plan;
 pub use outcomes::Outcome;
+pub use ranges::are_in_range;
 pub use rendezvous_steps::{Beat, End, Event, Item, ThreadResult, What};
 pub use runs::{Rendezvous, RunAnswer};
 pub use schedules::Scheduled;
+
+#[cfg(test)]
+mod generated_tests;
+#[cfg(test)]
+mod tests;

@@ -106,9 +106,9 @@ fn play_event<S: Sink>(core: &mut Core<'_>, event: Event, out: &mut S) -> Result
     ensures plays { Plays S.stands S.faults (plan_in core.old) (moment_in core.old) (moment_in core.new) (event ∷ []) out.old out.new result }
     ensures plan { plan_in core.new ≡ plan_in core.old }
 {
-    if core.is_over() {
-        return Ok(());
+    if !core.is_over() {
+        let item = core.event(event);
+        out.write(item_line(&item).as_slice())?;
     }
-    let item = core.event(event);
-    out.write(item_line(&item).as_slice())
+    Ok(())
 }

@@ -1,0 +1,33 @@
+//! Whether beats are a plan's.
+
+ghost use Rattle.std.specs.Prelude.{◌<◌, ◌↔◌, All, IsTrue};
+ghost use Rattle.rendezvous_model.specs.RoundStep.{thread_of};
+ghost use Rattle.rendezvous_rule.specs.Runs.{BeatInRange};
+
+use rendezvous_steps::{Beat, Event};
+
+/// Whether each event of the beats is one of the first so many threads.
+pub fn are_in_range(beats: &[Beat], threads: u16) -> bool
+    ensures { IsTrue result ↔ All (BeatInRange threads) beats.now }
+{
+    beats.iter().all(|beat| is_in_range(*beat, threads))
+}
+
+fn is_in_range(beat: Beat, threads: u16) -> bool
+    ensures { IsTrue result ↔ BeatInRange threads beat }
+{
+    match beat {
+        Beat::One(event) => is_below(event, threads),
+        Beat::Rounds(_) => true,
+    }
+}
+
+/// Whether an event is one of the first so many threads.
+pub fn is_below(event: Event, threads: u16) -> bool
+    ensures { IsTrue result ↔ (thread_of event < threads) }
+{
+    match event {
+        Event::Step(thread) | Event::Timeout(thread) | Event::Nmi(thread) | Event::Run(thread) =>
+            thread < threads,
+    }
+}
