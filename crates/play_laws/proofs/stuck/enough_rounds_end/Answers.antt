@@ -1,0 +1,5 @@
+use Rattle.play_laws.proofs.Rounds.{enough_rounds}
+use Rattle.play_laws.proofs.stuck.enough_rounds_end.Goals as goal
+
+pub returns : goal.returns
+returns c = enough_rounds

@@ -1,0 +1,5 @@
+pub mod Lawful
+pub mod Runs
+pub mod Stuck
+pub mod Outcomes
+pub mod Patient
