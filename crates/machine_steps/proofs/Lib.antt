@@ -1,1 +1,1 @@
-mod Revisions
+pub mod Revisions

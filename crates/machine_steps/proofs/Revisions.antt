@@ -8,7 +8,7 @@ use Rattle.machine_steps.specs.BringUps.{Patches, above, to_write, brought, brin
 use Rattle.machine_steps.specs.Laws.{NeverLower}
 
 -- what is to be written is above the group's revision
-above_is_more : (rev new : ℕ) (patch : Option (List ℕ)) → above rev patch ≡ Some new → rev < new
+pub above_is_more : (rev new : ℕ) (patch : Option (List ℕ)) → above rev patch ≡ Some new → rev < new
 above_is_more rev new None e = grind arith
 above_is_more rev new (Some patch) e = grind (arith, nat_tests)
 

@@ -49,6 +49,7 @@ impl PatchPool {
     /// The number of blocks. Its contract says also that each patch lies inside the region and no two share a block.
     pub fn blocks(&self) -> u32
         ensures size { result ≡ blocks_in self.now }
+        ensures few { result ≤ 65536 }
         ensures stand { Stands (patches_of self.now) (blocks_in self.now) }
     {
         self.runs.blocks

@@ -1,0 +1,5 @@
+mod Kept
+mod Freeing
+mod Rising
+mod Putting
+mod Booted

@@ -1,0 +1,44 @@
+-- What a cache stands for, and what a region holds beside it.
+use Rattle.std.specs.Prelude.{◌≡◌, ◌≢◌, ℕ, ◌<◌, ◌≤◌, true, List, length, Option, Some, None, slice_index_or}
+use Rattle.patch_pool.specs.declared.pool.PatchId.{PatchId}
+use Rattle.region_steps.specs.Region.{Patches}
+use Rattle.machine_steps.specs.Puts.{is_cached, patch_at}
+use Rattle.machine_steps.specs.BringUps as bring_ups
+use Rattle.early_load.specs.declared.cache.PatchCache.{PatchCache}
+
+-- where the patch with an id begins
+abbrev pub first_block : Option PatchId → Option ℕ
+first_block None = None
+first_block (Some id) = Some id.0
+
+-- where the patch of a group begins: past the last group there is none
+abbrev pub place_at : List (Option PatchId) → ℕ → Option ℕ
+place_at patches g = first_block (slice_index_or patches g None)
+
+abbrev pub groups_of : PatchCache → ℕ
+groups_of cache = length cache.patches.items
+
+-- where the patch begins that each group caches
+abbrev pub cached_of : PatchCache → ℕ → Option ℕ
+cached_of cache g = place_at cache.patches.items g
+
+abbrev pub nothing_cached : ℕ → Option ℕ
+nothing_cached g = None
+
+-- the bytes of the patch that each group caches
+abbrev pub cached_patches : Patches → (ℕ → Option ℕ) → bring_ups.Patches
+cached_patches patches cached g = patch_at patches (cached g)
+
+-- the patch is there, and has its revision word
+abbrev pub IsHeld : Option (List ℕ) → Type 0
+IsHeld None = ⊥
+IsHeld (Some bytes) = 8 ≤ length bytes
+
+-- the region holds the patch that each group caches
+abbrev pub AreHeld : ℕ → Patches → (ℕ → Option ℕ) → Type 0
+AreHeld groups patches cached = (g first : ℕ) → g < groups → cached g ≡ Some first → IsHeld (patches first)
+
+-- The region holds the patch that each group caches, and no other.
+pub record HoldsJustCached (groups : ℕ) (patches : Patches) (cached : ℕ → Option ℕ) : Type 0 where
+  pub each : AreHeld groups patches cached
+  pub only : (block : ℕ) → patches block ≢ None → is_cached groups cached block ≡ true

@@ -1,0 +1,4 @@
+pub mod Caches
+pub mod Wanted
+pub mod Puts
+pub mod Boots

@@ -1,0 +1,80 @@
+ghost use Rattle.std.specs.Prelude.{◌≤◌, IfOk, vec_len};
+
+use super::*;
+use hw_machine::Machine;
+use patch_pool::{PatchId, PatchPool};
+use std::alloc::{AllocError, Global};
+use std::test::Fail;
+use uc_catalog::Catalog;
+use uc_topology::read_topology;
+
+/// One core with two threads.
+const T2: &[u8] = b"ucode-topology 1\nvendor intel\ncore 0 sig 0x906ea flags 0x2 rev 0xb4\n\
+cpu 0 core 0\ncpu 1 core 0\n";
+
+/// An update of 2,048 bytes without sizes in its header, with this revision and checksum.
+fn update(alloc: Global, rev: u32, checksum: u32) -> Result<Vec<u8>, AllocError>
+    ensures { IfOk result (λ bytes. vec_len bytes ≤ 67108864) }
+{
+    let mut bytes = Vec::with_capacity(alloc, 2048)?;
+    for word in [1u32, rev, 0x0711_2023, 0x906ea, checksum, 1, 2] {
+        for byte in word.to_le_bytes() {
+            bytes.push(byte)?;
+        }
+    }
+    bytes.resize(2048, 0)?;
+    Ok(bytes)
+}
+
+#[test]
+fn the_first_thread_of_a_group_writes_again_after_a_resume(rt: HostRuntime) -> Result<(), Fail> {
+    let Ok(topology) = read_topology(T2) else {
+        return Err(Fail::from("no topology"));
+    };
+    let alloc = rt.alloc();
+    let mut catalog = Catalog::new(alloc);
+    let first = update(alloc, 0xf0, 0xf8e5_d7ff)?;
+    let second = update(alloc, 0xf4, 0xf8e5_d7fb)?;
+    if catalog.add(first).is_err() {
+        return Err(Fail::from("no first update"));
+    }
+    assert!(rt; catalog.files() < 16);
+    if catalog.add(second).is_err() {
+        return Err(Fail::from("no second update"));
+    }
+    let mut machine = Machine::new(&topology);
+    let mut cache = PatchCache::new(machine.groups());
+    let Ok(mut pool) = PatchPool::new(alloc, 3) else {
+        return Err(Fail::from("no pool"));
+    };
+    assert!(rt; machine.groups() == 1 && machine.threads() == 2 && catalog.len() == 2);
+    let wrote = BringUp {
+        thread: 0,
+        rev: 0xf0,
+        written: Written::Wrote,
+    };
+    let came = BringUp {
+        thread: 1,
+        rev: 0xf0,
+        written: Written::No,
+    };
+    let Ok(ups) = boot(&mut machine, &catalog, &[Some(0)], &mut pool, &mut cache) else {
+        return Err(Fail::from("no boot"));
+    };
+    assert!(rt; ups.len() == 2);
+    assert_eq!(rt; (ups[0], ups[1]), (wrote, came));
+    assert_eq!(rt; machine.suspend(), Ok(()));
+    let Ok(ups) = resume(&mut machine, &cache, &pool) else {
+        return Err(Fail::from("no resume"));
+    };
+    assert!(rt; ups.len() == 2);
+    assert_eq!(rt; (ups[0], ups[1]), (wrote, came));
+    // The other update needs two blocks, and one is free.
+    let full = match put_offers(&catalog, &[Some(1)], &mut pool) {
+        Ok(_) => None,
+        Err(full) => Some(full.needed),
+    };
+    assert_eq!(rt; full, Some(2));
+    assert!(rt; pool.held() == 1 && pool.holds(PatchId(0)));
+    Ok(())
+}
