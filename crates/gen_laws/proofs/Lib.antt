@@ -1,4 +1,6 @@
 mod Words
 mod Numbers
+mod Counted
 mod Body
 mod Topology
+mod Script

@@ -17,6 +17,7 @@ use Rattle.uc_topology.specs.Texts.{InTurn, LinesState, States}
 use Rattle.uc_gen.specs.Draws.{draw}
 use Rattle.uc_gen.specs.Texts.{line_of, core_words, core_sig, core_flags, core_lines, thread_words, thread_line, thread_lines, topology_text}
 use Rattle.gen_laws.specs.Stated.{core_of, cores_of, threads_of, machine_of}
+use Rattle.gen_laws.proofs.Counted.{AreCounted, kept, counted_append}
 use Rattle.gen_laws.proofs.Words.{AreWords, body_of, first_line, no_lines, body_words}
 use Rattle.gen_laws.proofs.Numbers.{Spells, sig_spells, flags_spells, flags_less}
 use Rattle.gen_laws.proofs.Body.{core_words_are, after_core, thread_words_are, after_thread}
@@ -75,22 +76,8 @@ body_lines number cores threads few_cores few_threads =
 
 -- ---- lines that count
 
-AreCounted : List (List ℕ) → Type 0
-AreCounted [] = Unit {0}
-AreCounted (line ∷ lines) = ((n : ℕ) → counts (n, line) ≡ true) × AreCounted lines
-
-kept : (n : ℕ) (lines : List (List ℕ)) → AreCounted lines → filter counts (enumerate_from n lines) ≡ enumerate_from n lines
-unfolding AreCounted
-kept n [] are = refl
-kept n (line ∷ lines) are = rw (are.0 n) (ap (λ (l : List (ℕ × List ℕ)). (n, line) ∷ l) (kept (n + 1) lines are.1))
-
-counted_append : (lines more : List (List ℕ)) → AreCounted lines → AreCounted more → AreCounted (lines ++ more)
-unfolding AreCounted
-counted_append [] more are then = then
-counted_append (line ∷ lines) more are then = (are.0, counted_append lines more are.1 then)
-
 counted_bodies : (words : ℕ → List (List ℕ)) (a n : ℕ) → ((k m : ℕ) → k < a + n → counts (m, body_of (words k)) ≡ true) → AreCounted (bodies words a n)
-unfolding AreCounted bodies
+unfolding bodies
 counted_bodies words a zero each = tt
 counted_bodies words a (suc n) each = (λ m. each a m (omega arith), counted_bodies words (a + 1) n (λ k m below. each k m (omega (arith, below))))
 
@@ -244,7 +231,6 @@ unfolding words_of
 vendor_is = refl
 
 all_counted : (number : ℕ) → AreCounted (body_of head_words ∷ body_of vendor_words ∷ all_bodies number)
-unfolding AreCounted
 all_counted number = (
   head_counts,
   (

@@ -1,7 +1,7 @@
-//! Laws of generated input: whatever the number, the generated topology states a machine. Each law is the contract of a
-//! function that does nothing.
+//! Laws of generated input: whatever the number, the generated topology states a machine, and the generated script a
+//! script for it. Each law is the contract of a function that does nothing.
 #![tactic(auto)]
 
 mod laws;
 
-pub use laws::generated_topology_is_read;
+pub use laws::{generated_script_is_read, generated_topology_is_read};
