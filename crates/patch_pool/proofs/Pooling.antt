@@ -1,11 +1,11 @@
 -- What the free blocks of a region say of its patches, and the other way round.
-use Rattle.std.proofs.Common.{◌≡◌, ℕ, ◌+◌, ◌-◌, ◌<◌, ◌≤◌, ◌↔◌, Bool, true, false, ◌&&◌, ◌||◌, not, List, length, Option, Some, None, is_some, refl, sym, ap, ◌∙◌, subst, arith}
-use Rattle.std.proofs.lemmas.Bool.{false≢true}
+use Rattle.std.proofs.Common.{inl, inr, ap, ◌≡◌, ℕ, ◌+◌, ◌-◌, ◌<◌, ◌≤◌, ◌↔◌, Bool, true, false, ◌&&◌, ◌||◌, not, List, length, Option, Some, None, is_some, refl, sym, ◌∙◌, subst, arith}
+use Rattle.std.proofs.lemmas.Bool.{false≢true, cases_eq}
 use Rattle.std.specs.List.{list_all, range_with_len}
 use Rattle.region_steps.specs.Region.{Patches, no_patches, begins_at, blocks_of, width, covers, is_covered, is_free_run, lowest_run, IsLongestFree, put_at, take_out, Stands}
 use Rattle.region_steps.proofs.Rows.{all_alike, found_alike}
 use Rattle.region_steps.proofs.Covered.{covers_means, covered_by, not_covered, begins_no_patch}
-use Rattle.region_steps.proofs.Changed.{is_among, covers_none, covered_put, covered_out}
+use Rattle.region_steps.proofs.Changed.{is_among, put_other, covers_none, covered_put, covered_out}
 use Rattle.region_steps.proofs.Standing.{put_stands}
 use Rattle.region_steps.proofs.Longest.{IsFreeInside, lowest_is_free, longer_than_longest, not_longer}
 use Rattle.patch_pool.specs.Free.{is_within, lowest_of, IsLongest, IsTaken, AreFree}
@@ -30,6 +30,21 @@ longest_same is_free patches blocks longest free is = record {
 -- without patches all blocks are free
 pub all_free : (is_free : ℕ → Bool) (blocks : ℕ) → ((block : ℕ) → block < blocks → is_free block ≡ true) → AreFree is_free no_patches blocks
 all_free is_free blocks each block lt = each block lt ∙ ap not (sym (not_covered no_patches block (λ first. covers_none no_patches first block refl)))
+
+-- ---- a patch that is held
+
+pub record IsHeld (patches : Patches) (blocks first : ℕ) : Type 0 where
+  pub some : 0 < width (patches first)
+  pub inside : first + width (patches first) ≤ blocks
+
+held_as : (patches : Patches) (blocks first : ℕ) (patch : Option (List ℕ)) → Stands patches blocks → patches first ≡ patch → is_some patch ≡ true → IsHeld patches blocks first
+held_as patches blocks first None stand is begins = absurd (false≢true begins)
+held_as patches blocks first (Some bytes) stand is begins =
+    let wide : width (patches first) ≡ blocks_of bytes = ap width is in
+    record { some = omega (arith, wide, stand.has_bytes first bytes is); inside = omega (arith, wide, stand.is_inside first bytes is) }
+
+pub held_is : (patches : Patches) (blocks first : ℕ) → Stands patches blocks → begins_at patches first ≡ true → IsHeld patches blocks first
+held_is patches blocks first stand begins = held_as patches blocks first (patches first) stand refl begins
 
 -- ---- a put
 
@@ -68,6 +83,14 @@ taken_for was_free is_free patches blocks needed first bytes free stand some is 
       free_are = free_after_put was_free is_free patches blocks first bytes free some there.free taken'.1;
     }
 
+-- a patch that the region holds stays
+pub stays_put : (is_free : ℕ → Bool) (patches : Patches) (blocks : ℕ) (bytes : List ℕ) (first other : ℕ) → IsPutAt is_free patches blocks bytes first → 0 < length bytes → IsHeld patches blocks other → put_at patches first bytes other ≡ patches other
+stays_put is_free patches blocks bytes first other put some held =
+    elim (cases_eq other first) [
+      | inl same ↦ absurd (omega (arith, held.some, begins_no_patch patches (blocks_of bytes) first put.free (omega (arith, some)), ap (λ (f : ℕ). width (patches f)) same))
+      | inr apart ↦ put_other patches first bytes other apart
+    ]
+
 pub none_for : (was_free is_free : ℕ → Bool) (patches : Patches) (blocks needed : ℕ) (bytes : List ℕ) → AreFree was_free patches blocks → needed ≡ blocks_of bytes
     → IsTaken was_free is_free blocks needed None → lowest_run patches blocks (blocks_of bytes) ≡ None
 none_for was_free is_free patches blocks needed bytes free is taken =
@@ -82,19 +105,6 @@ fitted patches blocks needed first longest some is =
     (λ e. absurd (false≢true e), λ lt. absurd (omega (arith, lt, not_longer patches blocks longest needed first is some)))
 
 -- ---- a patch that is freed
-
-pub record IsHeld (patches : Patches) (blocks first : ℕ) : Type 0 where
-  pub some : 0 < width (patches first)
-  pub inside : first + width (patches first) ≤ blocks
-
-held_as : (patches : Patches) (blocks first : ℕ) (patch : Option (List ℕ)) → Stands patches blocks → patches first ≡ patch → is_some patch ≡ true → IsHeld patches blocks first
-held_as patches blocks first None stand is begins = absurd (false≢true begins)
-held_as patches blocks first (Some bytes) stand is begins =
-    let wide : width (patches first) ≡ blocks_of bytes = ap width is in
-    record { some = omega (arith, wide, stand.has_bytes first bytes is); inside = omega (arith, wide, stand.is_inside first bytes is) }
-
-pub held_is : (patches : Patches) (blocks first : ℕ) → Stands patches blocks → begins_at patches first ≡ true → IsHeld patches blocks first
-held_is patches blocks first stand begins = held_as patches blocks first (patches first) stand refl begins
 
 -- its blocks are not free
 pub not_free : (is_free : ℕ → Bool) (patches : Patches) (blocks first : ℕ) → AreFree is_free patches blocks → IsHeld patches blocks first → (block : ℕ) → is_within first (width (patches first)) block ≡ true → is_free block ≡ false

@@ -55,12 +55,13 @@ impl PatchPool {
         self.runs.blocks
     }
 
-    /// Copies a patch of 1 to 67,108,864 bytes to the lowest run of free blocks that has as many as it needs. Where there
-    /// is none the pool is full, and stays as it was.
+    /// Copies a patch of 1 to 67,108,864 bytes to the lowest run of free blocks that has as many as it needs; the patches
+    /// that are held stay. Where there is no such run the pool is full, and stays as it was.
     pub fn put(&mut self, bytes: &[u8]) -> Result<PatchId, PoolFull>
         requires some { 0 < length bytes.now }
         requires short { length bytes.now ≤ 67108864 }
         ensures put { IsPut (patches_of self.old) (patches_of self.new) (blocks_in self.old) bytes.now result }
+        ensures stay { (other : ℕ) → begins_at (patches_of self.old) other ≡ true → patches_of self.new other ≡ patches_of self.old other }
         ensures full { (longest : ℕ) → IsLongestFree (patches_of self.old) (blocks_in self.old) longest → IsErr result ↔ (longest < blocks_of bytes.now) }
         ensures size { blocks_in self.new ≡ blocks_in self.old }
     {

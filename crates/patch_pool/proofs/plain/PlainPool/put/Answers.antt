@@ -1,11 +1,11 @@
 -- The free runs say where the lowest run of free blocks is, and the patch is copied there.
-use Rattle.std.proofs.Common.{ℕ, vec_len, refl, sym, subst, arith}
+use Rattle.std.proofs.Common.{ap, ◌∙◌, ℕ, vec_len, refl, sym, subst, arith}
 use Rattle.region_steps.specs.Region.{Patches, blocks_of, Stands}
 use Rattle.patch_pool.specs.Free.{AreFree}
 use Rattle.patch_pool.specs.Bytes.{patches_in}
 use Rattle.patch_pool.specs.Marks.{is_marked}
 use Rattle.patch_pool.specs.Plain.{patches_of, blocks_in}
-use Rattle.patch_pool.proofs.Pooling.{taken_for, none_for, refused, fitted}
+use Rattle.patch_pool.proofs.Pooling.{taken_for, none_for, refused, fitted, held_is, stays_put}
 use Rattle.patch_pool.proofs.plain.PlainPool.put.Goals as goal
 
 pub returns-in_default-clause-put : goal.returns-in_default-clause-put
@@ -58,3 +58,15 @@ returns-clause-full c = λ longest is.
     let patches = patches_in pool.region.bytes.items pool.region.lengths.items in
     let put = taken_for (is_marked pool.free.marks.items) (is_marked c.take.new.self.marks.items) patches (vec_len pool.free.marks) c.blocks_for-needed.result c.in-Some.first c.args.bytes.now pool.free_are pool.stand c.requires.some c.blocks_for-needed.ensures c.in-Some.ensures.taken in
     fitted patches (vec_len pool.free.marks) (blocks_of c.args.bytes.now) c.in-Some.first longest put.lowest is
+
+pub returns-in_default-clause-stay : goal.returns-in_default-clause-stay
+unfolding patches_of
+returns-in_default-clause-stay c = λ other held. refl
+
+pub returns-clause-stay : goal.returns-clause-stay
+unfolding patches_of blocks_in
+returns-clause-stay c = λ other begins.
+    let pool = c.args.self.now in
+    let patches = patches_in pool.region.bytes.items pool.region.lengths.items in
+    let put = taken_for (is_marked pool.free.marks.items) (is_marked c.take.new.self.marks.items) patches (vec_len pool.free.marks) c.blocks_for-needed.result c.in-Some.first c.args.bytes.now pool.free_are pool.stand c.requires.some c.blocks_for-needed.ensures c.in-Some.ensures.taken in
+    ap (λ (after : Patches). after other) c.put.ensures.put ∙ stays_put (is_marked c.take.new.self.marks.items) patches (vec_len pool.free.marks) c.args.bytes.now c.in-Some.first other put c.requires.some (held_is patches (vec_len pool.free.marks) other pool.stand begins)
