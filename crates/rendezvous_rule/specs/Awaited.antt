@@ -1,5 +1,5 @@
--- How many threads have not arrived, by the threads' own states. Thread 0 is left out: its phase does not tell whether it gave
--- up before it arrived.
+-- How many threads have not arrived, by the threads' own states. Thread 0 is left out: its phase does not tell whether
+-- it gave up before it arrived.
 use Rattle.std.specs.Prelude.{ℕ, ◌&&◌, not, count_by}
 use Rattle.rendezvous_steps.specs.declared.steps.Local.{Local}
 use Rattle.rendezvous_steps.specs.Plan.{Plan, is_online, threads_from}

@@ -1,5 +1,5 @@
--- What a thread knows in each phase: of itself, and of the state that the threads' views make. Of that it knows only what is
--- never taken back, so no step of another thread makes it false.
+-- What a thread knows in each phase, one row a phase: of itself, and of the state that the threads' views make. Of that
+-- state it knows only what is never taken back, so no step of another thread makes it false.
 use Rattle.std.specs.Prelude.{◌≡◌, ◌≢◌, ℕ, ◌<◌, Bool, true, false, Option, Some, None, is_some, if◌then◌else◌}
 use Rattle.rendezvous_steps.specs.declared.steps.Kind.{Kind}
 use Rattle.rendezvous_steps.specs.declared.steps.Kind.TheVariants.{Online, Offline, Absent}

@@ -1,5 +1,5 @@
--- What holds of the words and the threads' states between any two steps: the words are those of the state that the threads'
--- views make, that state has gathered as it should, and each thread knows what its phase says.
+-- What holds of the words and the threads' states between any two steps: the words are those of the state that the
+-- threads' views make, that state has gathered as it should, and each thread knows what its phase says.
 use Rattle.std.specs.Prelude.{◌≡◌, ℕ, ◌<◌, Bool, true}
 use Rattle.rendezvous_steps.specs.declared.steps.Kind.TheVariants.{Online}
 use Rattle.rendezvous_steps.specs.declared.steps.Local.{Local}

@@ -1,4 +1,5 @@
--- What the words and the other threads see of a thread, by its phase: its view. Everything else that it knows is its own.
+-- What the words and the other threads see of a thread, by its phase: its view. Everything else that it knows is its
+-- own. Each part has a row for every phase in which it tells something, and one for all others.
 use Rattle.std.specs.Prelude.{ℕ, Bool, true, false, ◌&&◌, ◌||◌, not, ◌==◌, nat_lt, if◌then◌else◌}
 use Rattle.rendezvous_steps.specs.declared.steps.Phase.{Phase}
 use Rattle.rendezvous_steps.specs.declared.steps.Phase.TheVariants as phase
@@ -22,7 +23,7 @@ place_in phase.Withdrawn mine = round.Out
 place_in phase.Nothing mine = round.Absent
 place_in at mine = round.In
 
--- it has arrived. On the drop path the phase of thread 0 does not tell, so what is asked then is answered as it is given
+-- it has arrived. On the drop path the phase of thread 0 does not tell, so there the answer is given from outside
 abbrev pub arrived_in : Phase → ℕ → Bool → Bool
 arrived_in phase.Outside mine given = false
 arrived_in phase.Kicking mine given = false
