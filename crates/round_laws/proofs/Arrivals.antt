@@ -143,7 +143,8 @@ unfolding still_awaited
 none_awaited plan arrived padded none t online =
     let within = online_in_range plan padded t online in
     missing_none (is_online (plan.kind t)) (arrived t) (ap is_online online)
-    (count_none (λ u. is_online (plan.kind u) && not (arrived u)) 0 (plan.threads - 0) t none (omega arith) (omega arith))
+    (count_none (λ u. is_online (plan.kind u) && not (arrived u)) 0 (plan.threads - 0) t none (omega arith)
+    (omega arith))
 
 here_uncounted : (kind : Kind) (b : Bool) → (kind ≡ Online → b ≡ true) → (is_online kind && not b) ≡ false
 here_uncounted Online b here = ap not (here refl)
@@ -159,11 +160,13 @@ all_online_here plan arrived here =
 
 -- as many Offline threads have arrived as there are, so all have
 pub all_offline_here :
-    (plan : Plan) (arrived : ℕ → Bool) → Padded plan → offline_arrived plan arrived ≡ offline_count plan → AllHere plan arrived
+    (plan : Plan) (arrived : ℕ → Bool) → Padded plan → offline_arrived plan arrived ≡ offline_count plan →
+    AllHere plan arrived
 unfolding offline_arrived offline_count
 all_offline_here plan arrived padded full k offline =
     let within = offline_in_range plan padded k offline in
-    count_all (λ u. is_offline (plan.kind u)) arrived 0 (plan.threads - 0) k full (omega arith) (omega arith) (ap is_offline offline)
+    count_all (λ u. is_offline (plan.kind u)) arrived 0 (plan.threads - 0) k full (omega arith) (omega arith)
+    (ap is_offline offline)
 
 -- where fewer are counted that pass both tests, one passes the first alone
 record Missing (p q : ℕ → Bool) : Type 0 where

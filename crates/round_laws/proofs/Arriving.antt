@@ -33,7 +33,8 @@ use Rattle.round_laws.proofs.Arrivals.{one_less, few_awaited, awaited_less, offl
 
 -- What is so once an Online thread more has arrived.
 
-grown_here : (plan : Plan) (arrived : ℕ → Bool) (t : ℕ) → AllOnlineHere plan arrived → AllOnlineHere plan (put arrived t true)
+grown_here :
+    (plan : Plan) (arrived : ℕ → Bool) (t : ℕ) → AllOnlineHere plan arrived → AllOnlineHere plan (put arrived t true)
 grown_here plan arrived t here u online = grows arrived t u (here u online)
 
 grown_all : (plan : Plan) (arrived : ℕ → Bool) (t : ℕ) → AllHere plan arrived → AllHere plan (put arrived t true)
@@ -125,12 +126,16 @@ arrived_gathered plan words locals first stage t last sound padded rule online m
       zero_last = λ e.
           elim (same_or_not 0 t) [
             | inl zero ↦ grown_all plan v.arrived t (row (sym zero))
-            | inr other ↦ grown_all plan v.arrived t (rule.gathered.zero_last (sym (put_other v.arrived t 0 true other) ∙ e))
+            | inr other ↦
+                grown_all plan v.arrived t (rule.gathered.zero_last (sym (put_other v.arrived t 0 true other) ∙ e))
           ];
       decides_last = λ u e. complete (decider u e).1;
       one_decides = λ u w e f. (decider u e).0 ∙ sym ((decider w f).0);
-      somebody_decides = λ gathering here.
-          (t, both (is_gathering stage) (put v.deciding t last t) (ap is_gathering gathering) (put_same v.deciding t last ∙ full here));
+      somebody_decides = λ gathering here. (
+        t,
+        both (is_gathering stage) (put v.deciding t last t) (ap is_gathering gathering)
+            (put_same v.deciding t last ∙ full here),
+      );
       go_after_all = λ e. absurd (no_go plan words locals first stage t rule online missing e);
       kick_dropped = rule.gathered.kick_dropped;
       dropped_by_online = rule.gathered.dropped_by_online;
@@ -148,7 +153,8 @@ arrives_kept :
     is_step h ≡ true →
     moment.locals t ≡ at_phase phase.Arriving at polls mine →
     plan.kind t ≡ Online →
-    (t ≡ 0 → AllHere plan (state plan first moment.locals stage).arrived) → Kept plan (event_of h t) moment (steps plan t h moment)
+    (t ≡ 0 → AllHere plan (state plan first moment.locals stage).arrived) →
+    Kept plan (event_of h t) moment (steps plan t h moment)
 unfolding operation after words_of views decides_now
 arrives_kept plan moment t h first stage at polls mine sound padded rule own here online row =
     let local = at_phase phase.Arriving at polls mine in
@@ -169,14 +175,21 @@ arrives_kept plan moment t h first stage at polls mine sound padded rule own her
     λ e. none_awaited plan arrived padded (equal_numbers m 0 (sym last_is ∙ e)) in
     let full : AllOnlineHere plan arrived → last ≡ true =
     λ everyone. last_is ∙ same_numbers m 0 (all_online_here plan arrived everyone) in
-    let next = λ (latched : ℕ → Bool). record (s latched) { arrived = arrived; is_decider = decides_now stage v.deciding t last } in
+    let next =
+    λ (latched : ℕ → Bool). record
+    (s latched) { arrived = arrived; is_decider = decides_now stage v.deciding t last } in
     let by_count : decides_now stage v.deciding t last ≡ decider_after plan t (s moment.latched) arrived =
     gathers_last (is_gathering stage) v.deciding t last undecided
-    (λ g e u. nobody_decides (v.deciding u) (λ f. no_decider plan (families moment.words) moment.locals first stage t u rule online missing
+    (λ g e u. nobody_decides (v.deciding u)
+    (λ f. no_decider plan (families moment.words) moment.locals first stage t u rule online missing
     (ap (λ b. b && v.deciding u) g ∙ f)))
-    ∙ ap {A = Bool} {B = ℕ → Bool} (λ b. if is_gathering stage && b then only t else (s moment.latched).is_decider) last_is
-    ∙ ap {A = Bool} {B = ℕ → Bool} (λ b. if b && (m == 0) then only t else (s moment.latched).is_decider) (sym (and_one (is_gathering stage)))
-    ∙ ap {A = Bool} {B = ℕ → Bool} (λ b. if (is_gathering stage && b) && (m == 0) then only t else (s moment.latched).is_decider) (sym (ap is_online online)) in
+    ∙ ap {A = Bool} {B = ℕ → Bool}
+    (λ b. if is_gathering stage && b then only t else (s moment.latched).is_decider) last_is
+    ∙ ap {A = Bool} {B = ℕ → Bool} (λ b. if b && (m == 0) then only t else (s moment.latched).is_decider)
+    (sym (and_one (is_gathering stage)))
+    ∙ ap {A = Bool} {B = ℕ → Bool}
+    (λ b. if (is_gathering stage && b) && (m == 0) then only t else (s moment.latched).is_decider)
+    (sym (ap is_online online)) in
     let arrives : Arrives plan t (s moment.latched) (next moment.latched) =
     record {
       is_in = is_inside plan moment.locals first stage moment.latched t local here refl;
@@ -190,18 +203,24 @@ arrives_kept plan moment t h first stage at polls mine sound padded rule own her
       sees = λ latched.
           ap (λ x. seen plan x stage latched)
           (only_arrived v t (view plan t first new) true last
-          (arrives_view plan t first local last ∙ ap (λ (w : View). record w { arrived = true; deciding = last }) (sym shows)));
+          (arrives_view plan t first local last
+          ∙ ap (λ (w : View). record w { arrived = true; deciding = last }) (sym shows)));
       says =
           ap (λ d. record (families moment.words) { arrive = (d + (2 ^ 64 - 1)) % 2 ^ 64 }) found
           ∙ ap (λ d. record (families moment.words) { arrive = d })
           (one_less n (omega arith) (few_awaited plan v.arrived sound) ∙ less n m down)
           ∙ ap (λ (w : Families). record w { arrive = m }) rule.says
-          ∙ ap (λ k. record (words_of plan (s nobody)) { arrive = m; off_in = k }) (offline_same plan v.arrived t online);
-      gathered = arrived_gathered plan (families moment.words) moment.locals first stage t last sound padded rule online missing undecided row complete full;
+          ∙ ap (λ k. record (words_of plan (s nobody)) { arrive = m; off_in = k })
+          (offline_same plan v.arrived t online);
+      gathered =
+          arrived_gathered plan
+          (families moment.words) moment.locals first stage t last sound padded rule online missing undecided row
+          complete full;
       later = later_arrived t (s nobody) t (decides_now stage v.deciding t last);
     })
     (subst (λ kind. Knows kind plan t new (next nobody)) (sym online)
-    (arrives_row plan t local last (next nobody) (no_go plan (families moment.words) moment.locals first stage t rule online missing)))
+    (arrives_row plan t local last (next nobody)
+    (no_go plan (families moment.words) moment.locals first stage t rule online missing)))
     (own_round plan t h (s moment.latched) (next moment.latched) what.Arrive own (refl, arrives) (refl, arrives))
   where
     nobody_decides : (b : Bool) → (b ≡ true → ⊥) → b ≡ false
@@ -219,8 +238,10 @@ arriving_kept : (h : How) → is_step h ≡ true → KeepsTheRule phase.Arriving
 unfolding KeepsTheRule
 arriving_kept h own plan moment t sound padded rule phase_is =
     let l = moment.locals t in
-    let at_thread = stands_in phase.Arriving plan (families moment.words) moment.locals rule.first rule.stage t rule.by phase_is refl in
-    arrives_kept plan moment t h rule.first rule.stage l.at l.polls l.mine sound padded rule.by own at_thread.here at_thread.online at_thread.row
+    let at_thread =
+    stands_in phase.Arriving plan (families moment.words) moment.locals rule.first rule.stage t rule.by phase_is refl in
+    arrives_kept plan moment t h rule.first rule.stage l.at l.polls l.mine sound padded rule.by own at_thread.here
+    at_thread.online at_thread.row
 
 pub arriving_step : KeepsTheRule phase.Arriving how.Step
 arriving_step = arriving_kept how.Step refl

@@ -80,7 +80,9 @@ counts_kept plan moment t h first stage at polls mine sound padded rule own here
     let found : moment.words word.OffIn ≡ n = ap (λ (w : Families). w.off_in) rule.says in
     let no_zero : t ≢ 0 = another_kind plan 0 t sound.thread_0_is_online offline in
     let decider : decider_after plan t (s moment.latched) arrived ≡ (s moment.latched).is_decider =
-    ap {A = Bool} {B = ℕ → Bool} (λ b. if (is_gathering stage && b) && (still_awaited plan arrived == 0) then only t else (s moment.latched).is_decider) (ap is_online offline)
+    ap {A = Bool} {B = ℕ → Bool}
+    (λ b. if (is_gathering stage && b) && (still_awaited plan arrived == 0) then only t else
+    (s moment.latched).is_decider) (ap is_online offline)
     ∙ never_last (is_gathering stage) (still_awaited plan arrived == 0) (only t) (s moment.latched).is_decider in
     let arrives : Arrives plan t (s moment.latched) (next moment.latched) =
     record {
@@ -102,7 +104,8 @@ counts_kept plan moment t h first stage at polls mine sound padded rule own here
           ∙ ap (λ d. record (families moment.words) { off_in = d })
           (one_more n (few_arrived plan v.arrived sound) ∙ sym (arrived_more plan v.arrived t padded offline missing))
           ∙ ap (λ (w : Families). record w { off_in = offline_arrived plan arrived }) rule.says
-          ∙ ap (λ k. record (words_of plan (s nobody)) { arrive = k; off_in = offline_arrived plan arrived }) (awaited_same plan v.arrived t offline);
+          ∙ ap (λ k. record (words_of plan (s nobody)) { arrive = k; off_in = offline_arrived plan arrived })
+          (awaited_same plan v.arrived t offline);
       gathered = counted_gathered plan v.arrived stage (s nobody).is_decider t sound offline rule.gathered;
       later = later_arrived t (s nobody) t (s nobody).is_decider;
     })
@@ -113,8 +116,11 @@ offline_count_kept : (h : How) → is_step h ≡ true → KeepsTheRule phase.Off
 unfolding KeepsTheRule
 offline_count_kept h own plan moment t sound padded rule phase_is =
     let l = moment.locals t in
-    let at_thread = stands_offline phase.OfflineCount plan (families moment.words) moment.locals rule.first rule.stage t rule.by phase_is refl in
-    counts_kept plan moment t h rule.first rule.stage l.at l.polls l.mine sound padded rule.by own at_thread.here at_thread.offline at_thread.row
+    let at_thread =
+    stands_offline phase.OfflineCount plan
+    (families moment.words) moment.locals rule.first rule.stage t rule.by phase_is refl in
+    counts_kept plan moment t h rule.first rule.stage l.at l.polls l.mine sound padded rule.by own at_thread.here
+    at_thread.offline at_thread.row
 
 pub offline_count_step : KeepsTheRule phase.OfflineCount how.Step
 offline_count_step = offline_count_kept how.Step refl

@@ -60,7 +60,8 @@ goes_kept plan moment t h first at polls mine sound padded rule own here online 
       sees = λ latched.
           ap (λ x. seen plan x Going latched)
           (only_deciding v t (view plan t first new) false
-          (go_view plan t first local ∙ ap (λ (w : View). record w { deciding = false }) (sym (view_is plan moment.locals first t local here))));
+          (go_view plan t first local
+          ∙ ap (λ (w : View). record w { deciding = false }) (sym (view_is plan moment.locals first t local here))));
       says =
           ap (λ d. record (families moment.words) { decide = if d == 0 then 1 else d }) found
           ∙ ap (λ (w : Families). record w { decide = 1 }) rule.says;
@@ -106,7 +107,8 @@ finds_drop plan moment t h first stage at polls mine sound padded rule own dropp
     (λ latched.
     ap (λ x. seen plan x stage latched)
     (only_deciding v t (view plan t ((t == 0) || first) new) false
-    (drop_arrived plan t first local padded ∙ ap (λ (w : View). record w { deciding = false }) (sym (view_is plan moment.locals first t local here))))
+    (drop_arrived plan t first local padded
+    ∙ ap (λ (w : View). record w { deciding = false }) (sym (view_is plan moment.locals first t local here))))
     ∙ decides_nothing plan first moment.locals stage latched (put v.deciding t false) dropped)
     (cas_keeps moment.words word.Decide 0 1 found)
     (subst (λ kind. Knows kind plan t new (state plan first moment.locals stage)) (sym online)
@@ -144,8 +146,10 @@ deciding_kept : (h : How) → is_step h ≡ true → KeepsTheRule phase.Deciding
 unfolding KeepsTheRule
 deciding_kept h own plan moment t sound padded rule phase_is =
     let l = moment.locals t in
-    let at_thread = stands_in phase.Deciding plan (families moment.words) moment.locals rule.first rule.stage t rule.by phase_is refl in
-    decides_by plan moment t h rule.first rule.stage l.at l.polls l.mine sound padded rule.by own at_thread.row at_thread.here at_thread.online
+    let at_thread =
+    stands_in phase.Deciding plan (families moment.words) moment.locals rule.first rule.stage t rule.by phase_is refl in
+    decides_by plan moment t h rule.first rule.stage l.at l.polls l.mine sound padded rule.by own at_thread.row
+    at_thread.here at_thread.online
 
 pub deciding_step : KeepsTheRule phase.Deciding how.Step
 deciding_step = deciding_kept how.Step refl

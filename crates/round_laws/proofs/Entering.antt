@@ -40,7 +40,8 @@ use Rattle.round_laws.proofs.Writing.{own_group}
 -- An Online thread.
 
 abbrev enter_by : Local → Bool → Option ℕ → Local
-enter_by local is_zero next = if is_zero then loop_at local phase.Kicking next phase.Arriving else to local phase.Arriving
+enter_by local is_zero next =
+    if is_zero then loop_at local phase.Kicking next phase.Arriving else to local phase.Arriving
 
 enters_view :
     (plan : Plan) (t : ℕ) (first : Bool) (at polls mine : ℕ) (is_zero : Bool) (next : Option ℕ) →
@@ -52,15 +53,18 @@ enters_view :
 enters_view plan t first at polls mine true (Some k) padded zero e =
     ap (λ (f : ℕ → Bool). record (view plan t first (at_phase phase.Outside at polls mine)) { place = In; kicks = f })
     (fun_ext (λ u.
-    ap (λ b. (t == 0) && b) (offline_begins plan (Some k) padded e u ∙ sym (and_false (is_offline (plan.kind u)) false refl))))
+    ap (λ b. (t == 0) && b)
+    (offline_begins plan (Some k) padded e u ∙ sym (and_false (is_offline (plan.kind u)) false refl))))
 enters_view plan t first at polls mine true None padded zero e =
     ap (λ (f : ℕ → Bool). record (view plan t first (at_phase phase.Outside at polls mine)) { place = In; kicks = f })
     (fun_ext (λ u.
-    ap (λ b. (t == 0) && b) (offline_begins plan None padded e u ∙ sym (and_false (is_offline (plan.kind u)) false refl))))
+    ap (λ b. (t == 0) && b)
+    (offline_begins plan None padded e u ∙ sym (and_false (is_offline (plan.kind u)) false refl))))
 enters_view plan t first at polls mine false next padded zero e =
     ap (λ (f : ℕ → Bool). record (view plan t first (at_phase phase.Outside at polls mine)) { place = In; kicks = f })
     (fun_ext (λ u.
-    ap (λ b. b && (is_offline (plan.kind u) && true)) zero ∙ sym (ap (λ b. b && (is_offline (plan.kind u) && false)) zero)))
+    ap (λ b. b && (is_offline (plan.kind u) && true)) zero
+    ∙ sym (ap (λ b. b && (is_offline (plan.kind u) && false)) zero)))
 
 enters_row :
     (plan : Plan) (t : ℕ) (local : Local) (is_zero : Bool) (next : Option ℕ) (s : State) →
@@ -72,7 +76,8 @@ enters_row plan t local true None s padded zero e =
 enters_row plan t local false next s padded zero e = λ z. absurd (true≢false (sym (same_numbers t 0 z) ∙ zero))
 
 -- the words, where the code of its place stays in all but its mode
-entered_nmi : (kind : Kind) (kicked : Bool) (x y : Place) → kind ≡ Online → nmi_code kind kicked x ≡ nmi_code kind kicked y
+entered_nmi :
+    (kind : Kind) (kicked : Bool) (x y : Place) → kind ≡ Online → nmi_code kind kicked x ≡ nmi_code kind kicked y
 entered_nmi kind kicked x y e = ap (λ k. nmi_code k kicked x) e ∙ sym (ap (λ k. nmi_code k kicked y) e)
 
 entered_says :
@@ -80,7 +85,8 @@ entered_says :
     plan.kind t ≡ Online →
     s.place t ≡ Out →
     writes_now plan t s.group ≡ false →
-    record (words_of plan s) { mode = put (words_of plan s).mode t 1 } ≡ words_of plan (record s { place = put s.place t In })
+    record (words_of plan s) { mode = put (words_of plan s).mode t 1 }
+    ≡ words_of plan (record s { place = put s.place t In })
 unfolding words_of
 entered_says plan s t online out writes =
     let code : 1 ≡ mode_code (plan.kind t) (writes_now plan t s.group) In =
@@ -138,9 +144,21 @@ enters_kept plan moment t h first stage at polls mine sound padded rule own here
     let out : (s nobody).place t ≡ Out = ap (λ p. place_seen p (v.settles 0 t)) raw ∙ ap (place_seen Out) none in
     let frees = v.frees (plan.primary (plan.group t)) t in
     let by_step : Enters plan t round.Step (s moment.latched) (next moment.latched) =
-    record { is_out = out; may = ap (λ k. may_enter k round.Step ((s moment.latched).kicked t)) online; change = refl } in
+    record {
+      is_out = out;
+      may =
+          ap
+          (λ k. may_enter k round.Step ((s moment.latched).kicked t)) online;
+      change = refl;
+    } in
     let by_timeout : Enters plan t round.Timeout (s moment.latched) (next moment.latched) =
-    record { is_out = out; may = ap (λ k. may_enter k round.Timeout ((s moment.latched).kicked t)) online; change = refl } in
+    record {
+      is_out = out;
+      may =
+          ap
+          (λ k. may_enter k round.Timeout ((s moment.latched).kicked t)) online;
+      change = refl;
+    } in
     step_kept plan moment t h (Store (word.Mode t) 1) local new what.Enter first first stage stage next
     sound padded rule here
     (ap (λ k. Some (enter_operation k t)) online)
@@ -185,7 +203,8 @@ taken_view plan t first at polls mine other =
 withdrawn_view :
     (plan : Plan) (t : ℕ) (first : Bool) (at polls mine : ℕ) →
     t ≢ 0 →
-    view plan t first (at_phase phase.Withdrawn at polls mine) ≡ view plan t first (at_phase phase.Outside at polls mine)
+    view plan t first (at_phase phase.Withdrawn at polls mine)
+    ≡ view plan t first (at_phase phase.Outside at polls mine)
 withdrawn_view plan t first at polls mine other =
     ap (λ (f : ℕ → Bool). record (view plan t first (at_phase phase.Outside at polls mine)) { kicks = f })
     (fun_ext (λ u. no_zero plan t (is_offline (plan.kind u) && true) (is_offline (plan.kind u) && false) other))
@@ -199,7 +218,8 @@ taken_says :
     plan.kind t ≡ Offline →
     s.place t ≡ Out →
     s.kicked t ≡ true →
-    record (words_of plan s) { nmi = put (words_of plan s).nmi t 2 } ≡ words_of plan (record s { place = put s.place t In })
+    record (words_of plan s) { nmi = put (words_of plan s).nmi t 2 }
+    ≡ words_of plan (record s { place = put s.place t In })
 unfolding words_of
 taken_says plan s t offline out kicked =
     let code : 2 ≡ nmi_code (plan.kind t) (s.kicked t) In =
@@ -207,7 +227,8 @@ taken_says plan s t offline out kicked =
     let modes : (λ (u : ℕ). mode_code (plan.kind u) (writes_now plan u s.group) (put s.place t In u))
     ≡ (λ u. mode_code (plan.kind u) (writes_now plan u s.group) (s.place u)) =
     code_kept (λ u p. mode_code (plan.kind u) (writes_now plan u s.group) p) s.place t In
-    (taken_mode (plan.kind t) (writes_now plan t s.group) offline ∙ ap (mode_code (plan.kind t) (writes_now plan t s.group)) (sym out)) in
+    (taken_mode (plan.kind t) (writes_now plan t s.group) offline
+    ∙ ap (mode_code (plan.kind t) (writes_now plan t s.group)) (sym out)) in
     let ctrls : (λ (u : ℕ). ctrl_code (put s.place t In u) (s.freed u) (s.group (plan.group u)))
     ≡ (λ u. ctrl_code (s.place u) (s.freed u) (s.group (plan.group u))) =
     code_kept (λ u p. ctrl_code p (s.freed u) (s.group (plan.group u))) s.place t In
@@ -247,13 +268,26 @@ takes_kept plan moment t h first stage at polls mine sound padded rule own here 
     ∙ ap (λ b. nmi_code Offline b ((s nobody).place t)) kicked
     ∙ ap (nmi_code Offline true) out in
     let by_step : Enters plan t round.Step (s moment.latched) (next moment.latched) =
-    record { is_out = out; may = ap (λ k. may_enter k round.Step ((s moment.latched).kicked t)) offline ∙ kicked; change = refl } in
+    record {
+      is_out = out;
+      may =
+          ap (λ k. may_enter k round.Step ((s moment.latched).kicked t)) offline
+          ∙ kicked;
+      change = refl;
+    } in
     let by_timeout : Enters plan t round.Timeout (s moment.latched) (next moment.latched) =
-    record { is_out = out; may = ap (λ k. may_enter k round.Timeout ((s moment.latched).kicked t)) offline ∙ kicked; change = refl } in
+    record {
+      is_out = out;
+      may =
+          ap (λ k. may_enter k round.Timeout ((s moment.latched).kicked t)) offline
+          ∙ kicked;
+      change = refl;
+    } in
     step_kept plan moment t h (Cas (word.Nmi t) 1 2) local new what.Enter first first stage stage next
     sound padded rule here
     (ap (λ k. Some (enter_operation k t)) offline)
-    (ap (λ k. after_outside k plan t local h (moment.words (word.Nmi t))) offline ∙ ap (after_outside Offline plan t local h) found)
+    (ap (λ k. after_outside k plan t local h (moment.words (word.Nmi t))) offline
+    ∙ ap (after_outside Offline plan t local h) found)
     (λ same. refl)
     (record {
       sees = λ latched.
@@ -263,7 +297,8 @@ takes_kept plan moment t h first stage at polls mine sound padded rule own here 
           ∙ sees_place_here plan v stage latched t In
           (freed_same frees (v.settles 0 t) none ∙ ap (λ p. freed_seen p frees (v.settles 0 t)) (sym raw));
       says =
-          ap (λ n. record (families moment.words) { nmi = put (families moment.words).nmi t (if n == 1 then 2 else n) }) found
+          ap (λ n. record (families moment.words)
+          { nmi = put (families moment.words).nmi t (if n == 1 then 2 else n) }) found
           ∙ ap (λ (w : Families). record w { nmi = put w.nmi t 2 }) rule.says
           ∙ taken_says plan (s nobody) t offline out kicked;
       gathered = rule.gathered;
@@ -278,11 +313,13 @@ takes_kept plan moment t h first stage at polls mine sound padded rule own here 
 finds_gone :
     (plan : Plan) (t : ℕ) (local : Local) (h : How) (found : ℕ) →
     is_step h ≡ true →
-    plan.kind t ≡ Offline → found ≡ 3 → after_outside (plan.kind t) plan t local h found ≡ (to local phase.Withdrawn, what.Idle)
+    plan.kind t ≡ Offline → found ≡ 3 →
+    after_outside (plan.kind t) plan t local h found ≡ (to local phase.Withdrawn, what.Idle)
 finds_gone plan t local how.Step found own offline e =
     ap (λ k. after_outside k plan t local how.Step found) offline ∙ ap (after_outside Offline plan t local how.Step) e
 finds_gone plan t local how.Timeout found own offline e =
-    ap (λ k. after_outside k plan t local how.Timeout found) offline ∙ ap (after_outside Offline plan t local how.Timeout) e
+    ap (λ k. after_outside k plan t local how.Timeout found) offline
+    ∙ ap (after_outside Offline plan t local how.Timeout) e
 finds_gone plan t local how.Nmi found own offline e = cc
 
 finds_none :
@@ -292,7 +329,8 @@ finds_none :
 finds_none plan t local how.Step found own offline e =
     ap (λ k. after_outside k plan t local how.Step found) offline ∙ ap (after_outside Offline plan t local how.Step) e
 finds_none plan t local how.Timeout found own offline e =
-    ap (λ k. after_outside k plan t local how.Timeout found) offline ∙ ap (after_outside Offline plan t local how.Timeout) e
+    ap (λ k. after_outside k plan t local how.Timeout found) offline
+    ∙ ap (after_outside Offline plan t local how.Timeout) e
 finds_none plan t local how.Nmi found own offline e = cc
 
 -- its kick was taken back
@@ -313,7 +351,8 @@ withdrawn_kept plan moment t h first stage at polls mine sound padded rule own h
     let v = views plan first moment.locals in
     let s = λ (latched : ℕ → Bool). seen plan v stage latched in
     let raw : v.place t ≡ Out = ap (λ (w : View). w.place) (view_is plan moment.locals first t local here) in
-    let gone : (s nobody).place t ≡ Withdrawn = ap (λ p. place_seen p (v.settles 0 t)) raw ∙ ap (place_seen Out) settled in
+    let gone : (s nobody).place t ≡ Withdrawn =
+    ap (λ p. place_seen p (v.settles 0 t)) raw ∙ ap (place_seen Out) settled in
     let other : t ≢ 0 = another_kind plan 0 t sound.thread_0_is_online offline in
     let kicked = settled_kicked plan moment.locals first t settled in
     let found : moment.words (word.Nmi t) ≡ 3 =
@@ -378,7 +417,8 @@ unkicked_kept plan moment t h first stage at polls mine sound padded rule own he
     (for_kick (record { is_offline = offline; is_out = out; not_kicked = unkicked }))
 
 offline_by :
-    (plan : Plan) (moment : Running) (t : ℕ) (h : How) (first : Bool) (stage : Stage) (at polls mine : ℕ) (settled kicked : Bool) →
+    (plan : Plan) (moment : Running) (t : ℕ) (h : How) (first : Bool) (stage : Stage) (at polls mine : ℕ)
+    (settled kicked : Bool) →
     Sound plan →
     Padded plan →
     RuleBy plan (families moment.words) moment.locals first stage →
@@ -403,10 +443,12 @@ outside_by :
     is_step h ≡ true →
     (moment.locals t).phase ≡ phase.Outside →
     plan.kind t ≡ kind →
-    Knows kind plan t (moment.locals t) (state plan rule.first moment.locals rule.stage) → Kept plan (event_of h t) moment (steps plan t h moment)
+    Knows kind plan t (moment.locals t) (state plan rule.first moment.locals rule.stage) →
+    Kept plan (event_of h t) moment (steps plan t h moment)
 outside_by plan moment t h Online sound padded rule own e kind knows =
     let l = moment.locals t in
-    enters_kept plan moment t h rule.first rule.stage l.at l.polls l.mine sound padded rule.by own (is_at l phase.Outside e) kind
+    enters_kept plan moment t h rule.first rule.stage l.at l.polls l.mine sound padded rule.by own
+    (is_at l phase.Outside e) kind
 outside_by plan moment t h Offline sound padded rule own e kind knows =
     let l = moment.locals t in
     offline_by plan moment t h rule.first rule.stage l.at l.polls l.mine

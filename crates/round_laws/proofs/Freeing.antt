@@ -85,16 +85,21 @@ frees_row plan t k at polls mine None s reports e =
 
 -- The words.
 
-release_by : (offer : Option ℕ) (refuses : Bool) → (if number_of (report_by offer refuses) == 1 then 1 else 2) ≡ release_code (Reported (report_by offer refuses))
+release_by :
+    (offer : Option ℕ) (refuses : Bool) →
+    (if number_of (report_by offer refuses) == 1 then 1 else 2) ≡ release_code (Reported (report_by offer refuses))
 release_by None refuses = refl
 release_by (Some o) true = refl
 release_by (Some o) false = refl
 
-released : (plan : Plan) (g mine : ℕ) → mine ≡ number_of (report_of plan g) → (if mine == 1 then 1 else 2) ≡ release_code (Reported (report_of plan g))
+released :
+    (plan : Plan) (g mine : ℕ) → mine ≡ number_of (report_of plan g) →
+    (if mine == 1 then 1 else 2) ≡ release_code (Reported (report_of plan g))
 unfolding report_of
 released plan g mine e = ap (λ n. if n == 1 then 1 else 2) e ∙ release_by (plan.offer g) (plan.refuse g)
 
-result_back : (offer : Option ℕ) (refuses : Bool) → result_of (number_of (report_by offer refuses)) ≡ report_by offer refuses
+result_back :
+    (offer : Option ℕ) (refuses : Bool) → result_of (number_of (report_by offer refuses)) ≡ report_by offer refuses
 result_back None refuses = refl
 result_back (Some o) true = refl
 result_back (Some o) false = refl
@@ -111,7 +116,8 @@ unfreed Halted p z e f = refl
 unfreed Withdrawn p z e f = e
 unfreed Absent p z e f = e
 
-pub placed : (place x : Place) (p z : Bool) → place_seen place z ≡ x → z ≡ false → freed_seen place p z ≡ freed_seen x p z
+pub placed :
+    (place x : Place) (p z : Bool) → place_seen place z ≡ x → z ≡ false → freed_seen place p z ≡ freed_seen x p z
 placed place x p z e f = ap (λ y. freed_seen y p z) (sym (unsettled_place place z f) ∙ e)
   where
     unsettled_place : (place : Place) (z : Bool) → z ≡ false → place_seen place z ≡ place
@@ -153,13 +159,17 @@ free_parts plan words locals first t k polls mine sound padded rule here primary
     let unfreed_yet : v.frees (plan.primary (plan.group k)) k ≡ false =
     ap (λ p. v.frees p k) leads
     ∙ ap (λ f. f k) was
-    ∙ and_false (is_primary plan t) (is_sibling plan t k && nat_lt k k) (and_false (is_sibling plan t k) (nat_lt k k) (not_itself k)) in
+    ∙ and_false (is_primary plan t) (is_sibling plan t k && nat_lt k k)
+    (and_false (is_sibling plan t k) (nat_lt k k) (not_itself k)) in
     record {
       leads = leads;
       grown =
-          fun_ext (λ u. ap (λ b. is_primary plan t && b) (sibling_goes_on plan t k (sibling_from plan t (k + 1)) padded next refl u))
+          fun_ext
+          (λ u. ap (λ b. is_primary plan t && b)
+          (sibling_goes_on plan t k (sibling_from plan t (k + 1)) padded next refl u))
           ∙ put_map (λ u b. is_primary plan t && b) (λ u. is_sibling plan t u && nat_lt u k) k true
-          ∙ ap (λ b. put (λ u. is_primary plan t && (is_sibling plan t u && nat_lt u k)) k b) (and_both (is_primary plan t) true primary refl)
+          ∙ ap (λ b. put (λ u. is_primary plan t && (is_sibling plan t u && nat_lt u k)) k b)
+          (and_both (is_primary plan t) true primary refl)
           ∙ ap (λ f. put f k true) (sym was);
       freed = unfreed (v.place k) (v.frees (plan.primary (plan.group k)) k) (v.settles 0 k) unfreed_yet unsettled;
       unsettled = unsettled;
@@ -178,7 +188,8 @@ free_sees :
     locals t ≡ at_phase phase.Freeing k polls mine →
     plan.primary (plan.group k) ≡ t →
     set ≡ put (v.frees t) k true →
-    seen plan (put_view v t (record (view plan t first (at_phase phase.Freeing k polls mine)) { frees = set })) Going latched
+    seen plan
+    (put_view v t (record (view plan t first (at_phase phase.Freeing k polls mine)) { frees = set })) Going latched
     ≡ record s { freed = put s.freed k (freed_seen (v.place k) true (v.settles 0 k)) })
 free_sees plan locals first t k polls mine latched set here leads grown =
     let v = views plan first locals in
@@ -211,12 +222,15 @@ frees_kept plan moment t h first k polls mine sound padded rule own here online 
     let set = λ (u : ℕ). is_primary plan t && (is_sibling plan t u && past to_next u) in
     let s = λ (latched : ℕ → Bool). seen plan v Going latched in
     let after_it = λ (latched : ℕ → Bool). record (s latched) { freed = put (s latched).freed k true } in
-    let f = free_parts plan (families moment.words) moment.locals first t k polls mine sound padded rule here primary result next in
+    let f =
+    free_parts plan
+    (families moment.words) moment.locals first t k polls mine sound padded rule here primary result next in
     let found : moment.words (word.Ctrl k) ≡ 0 =
     ap (λ (w : Families). w.ctrl k) rule.says
     ∙ ap (λ b. ctrl_code ((s nobody).place k) b ((s nobody).group (plan.group k))) f.freed
     ∙ ap (λ p. ctrl_code p false ((s nobody).group (plan.group k))) inside in
-    let is_freed : freed_seen (v.place k) true (v.settles 0 k) ≡ true = placed (v.place k) In true (v.settles 0 k) inside f.unsettled in
+    let is_freed : freed_seen (v.place k) true (v.settles 0 k) ≡ true =
+    placed (v.place k) In true (v.settles 0 k) inside f.unsettled in
     let code : release_of local ≡ ctrl_code ((s nobody).place k) true ((s nobody).group (plan.group k)) =
     released plan (plan.group t) mine result
     ∙ ap (λ g. release_code (Reported (report_of plan g))) (sym (sibling plan t k next).same_group)
@@ -232,20 +246,24 @@ frees_kept plan moment t h first k polls mine sound padded rule own here online 
       may = inl may;
       change = refl;
     } in
-    step_kept plan moment t h (Cas (word.Ctrl k) 0 (release_of local)) local new (what.Free k) first first Going Going after_it
+    step_kept plan moment t h (Cas (word.Ctrl k) 0 (release_of local)) local new
+    (what.Free k) first first Going Going after_it
     sound padded rule here refl
     (ap (after plan t local h) found)
     (λ other. refl)
     (record {
       sees = λ latched.
-          ap (λ w. seen plan (put_view v t w) Going latched) (frees_view plan t first k polls mine to_next (no_timeout plan (plan.group t) mine result))
+          ap (λ w. seen plan (put_view v t w) Going latched)
+          (frees_view plan t first k polls mine to_next (no_timeout plan (plan.group t) mine result))
           ∙ free_sees plan moment.locals first t k polls mine latched set here f.leads f.grown
           ∙ ap (λ b. record (s latched) { freed = put (s latched).freed k b }) is_freed;
       says =
-          ap (λ n. record (families moment.words) { ctrl = put (families moment.words).ctrl k (if n == 0 then release_of local else n) }) found
+          ap (λ n. record (families moment.words)
+          { ctrl = put (families moment.words).ctrl k (if n == 0 then release_of local else n) }) found
           ∙ ap (λ (w : Families). record w { ctrl = put w.ctrl k (release_of local) }) rule.says
           ∙ ap (λ n. record (words_of plan (s nobody)) { ctrl = n })
-          (coded (λ u b. ctrl_code ((s nobody).place u) b ((s nobody).group (plan.group u))) (s nobody).freed k true (release_of local) code);
+          (coded (λ u b. ctrl_code ((s nobody).place u) b ((s nobody).group (plan.group u))) (s nobody).freed k true
+          (release_of local) code);
       gathered = rule.gathered;
       later = later_freed t (s nobody) k;
     })
@@ -274,7 +292,9 @@ passes_kept plan moment t h first k polls mine sound padded rule own here online
     let v = views plan first moment.locals in
     let set = λ (u : ℕ). is_primary plan t && (is_sibling plan t u && past to_next u) in
     let s = λ (latched : ℕ → Bool). seen plan v Going latched in
-    let f = free_parts plan (families moment.words) moment.locals first t k polls mine sound padded rule here primary result next in
+    let f =
+    free_parts plan
+    (families moment.words) moment.locals first t k polls mine sound padded rule here primary result next in
     let found : moment.words (word.Ctrl k) ≡ 3 =
     ap (λ (w : Families). w.ctrl k) rule.says
     ∙ ap (λ p. ctrl_code p ((s nobody).freed k) ((s nobody).group (plan.group k))) halted in
@@ -285,9 +305,11 @@ passes_kept plan moment t h first k polls mine sound padded rule own here online
     (ap (after plan t local h) found)
     (λ other. refl)
     (λ latched.
-    ap (λ w. seen plan (put_view v t w) Going latched) (frees_view plan t first k polls mine to_next (no_timeout plan (plan.group t) mine result))
+    ap (λ w. seen plan (put_view v t w) Going latched)
+    (frees_view plan t first k polls mine to_next (no_timeout plan (plan.group t) mine result))
     ∙ free_sees plan moment.locals first t k polls mine latched set here f.leads f.grown
-    ∙ ap (λ x. record (s latched) { freed = x }) (put_back (s latched).freed k (freed_seen (v.place k) true (v.settles 0 k)) stays))
+    ∙ ap (λ x. record (s latched) { freed = x })
+    (put_back (s latched).freed k (freed_seen (v.place k) true (v.settles 0 k)) stays))
     (cas_keeps moment.words (word.Ctrl k) 0 (release_of local) (ap (λ n. n == 0) found))
     (subst (λ kind. Knows kind plan t new (s nobody)) (sym online)
     (frees_row plan t (k + 1) k polls mine to_next (s nobody) (primary, refl, result) refl))
@@ -306,22 +328,32 @@ free_by :
     mine ≡ number_of (report_of plan (plan.group t)) →
     is_sibling plan t k ≡ true → Kept plan (event_of h t) moment (steps plan t h moment)
 free_by plan moment t h first Going k polls mine sound padded rule own here online going primary result next =
-    let f = free_parts plan (families moment.words) moment.locals first t k polls mine sound padded rule here primary result next in
-    elim (inside_after_go plan (families moment.words) moment.locals first k sound rule (sibling plan t k next).present (no_primary_of plan t k primary next) f.freed) [
-      | inl inside ↦ frees_kept plan moment t h first k polls mine sound padded rule own here online primary result next inside
-      | inr halted ↦ passes_kept plan moment t h first k polls mine sound padded rule own here online primary result next halted
+    let f =
+    free_parts plan
+    (families moment.words) moment.locals first t k polls mine sound padded rule here primary result next in
+    elim
+    (inside_after_go plan (families moment.words) moment.locals first k sound rule (sibling plan t k next).present
+    (no_primary_of plan t k primary next) f.freed) [
+      | inl inside ↦
+          frees_kept plan moment t h first k polls mine sound padded rule own here online primary result next inside
+      | inr halted ↦
+          passes_kept plan moment t h first k polls mine sound padded rule own here online primary result next halted
     ]
 free_by plan moment t h first Gathering k polls mine sound padded rule own here online going primary result next = cc
-free_by plan moment t h first DroppedByKick k polls mine sound padded rule own here online going primary result next = cc
-free_by plan moment t h first (DroppedBy u) k polls mine sound padded rule own here online going primary result next = cc
+free_by plan moment t h first DroppedByKick k polls mine sound padded rule own here online going primary result next =
+    cc
+free_by plan moment t h first (DroppedBy u) k polls mine sound padded rule own here online going primary result next =
+    cc
 
 freeing_kept : (h : How) → is_step h ≡ true → KeepsTheRule phase.Freeing h
 unfolding KeepsTheRule
 freeing_kept h own plan moment t sound padded rule phase_is =
     let l = moment.locals t in
-    let at_thread = stands_in phase.Freeing plan (families moment.words) moment.locals rule.first rule.stage t rule.by phase_is refl in
+    let at_thread =
+    stands_in phase.Freeing plan (families moment.words) moment.locals rule.first rule.stage t rule.by phase_is refl in
     let row = at_thread.row in
-    free_by plan moment t h rule.first rule.stage l.at l.polls l.mine sound padded rule.by own at_thread.here at_thread.online row.0.1 row.0.0 row.0.2 row.1
+    free_by plan moment t h rule.first rule.stage l.at l.polls l.mine sound padded rule.by own at_thread.here
+    at_thread.online row.0.1 row.0.0 row.0.2 row.1
 
 pub freeing_step : KeepsTheRule phase.Freeing how.Step
 freeing_step = freeing_kept how.Step refl

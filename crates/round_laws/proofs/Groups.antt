@@ -80,7 +80,8 @@ group_says :
     is_primary plan t ≡ true →
     m ≡ mode_code (plan.kind t) (has_begun x) (s.place t) →
     ((u : ℕ) →
-    plan.group u ≡ plan.group t → ctrl_code (s.place u) (s.freed u) x ≡ ctrl_code (s.place u) (s.freed u) (s.group (plan.group t))) →
+    plan.group u ≡ plan.group t →
+    ctrl_code (s.place u) (s.freed u) x ≡ ctrl_code (s.place u) (s.freed u) (s.group (plan.group t))) →
     with_group (words_of plan s) t (plan.group t) m (revision_in plan (plan.group t) x) (res_code x)
     ≡ words_of plan (group_at plan s (plan.group t) x)
 unfolding words_of
@@ -94,7 +95,8 @@ group_says plan s t m x primary mode ctrls =
 
 -- The change where the write of its group comes to x by a step of its primary.
 pub group_change :
-    (plan : Plan) (words words' : Families) (locals : ℕ → Local) (first : Bool) (t m : ℕ) (local new : Local) (x : GroupPlace) →
+    (plan : Plan) (words words' : Families) (locals : ℕ → Local) (first : Bool) (t m : ℕ) (local new : Local)
+    (x : GroupPlace) →
     Sound plan →
     Padded plan →
     RuleBy plan words locals first Going →
@@ -106,10 +108,12 @@ pub group_change :
     (let s = state plan first locals Going in
     m ≡ mode_code (plan.kind t) (has_begun x) (s.place t) →
     ((u : ℕ) →
-    plan.group u ≡ plan.group t → ctrl_code (s.place u) (s.freed u) x ≡ ctrl_code (s.place u) (s.freed u) (s.group (plan.group t))) →
+    plan.group u ≡ plan.group t →
+    ctrl_code (s.place u) (s.freed u) x ≡ ctrl_code (s.place u) (s.freed u) (s.group (plan.group t))) →
     Change plan t words' (views plan first locals) (view plan t first new) Going Going
     (λ latched. group_at plan (seen plan (views plan first locals) Going latched) (plan.group t) x))
-group_change plan words words' locals first t m local new x sound padded rule here online primary shows says mode ctrls =
+group_change plan words words' locals first t m local new x sound padded rule here online primary shows says mode
+    ctrls =
     let v = views plan first locals in
     let s = state plan first locals Going in
     let g = plan.group t in

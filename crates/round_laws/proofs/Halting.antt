@@ -58,13 +58,15 @@ halted_view plan t first local = refl
 halted_says :
     (plan : Plan) (s : State) (t : ℕ) →
     s.place t ≡ In →
-    record (words_of plan s) { ctrl = put (words_of plan s).ctrl t 3 } ≡ words_of plan (record s { place = put s.place t Halted })
+    record (words_of plan s) { ctrl = put (words_of plan s).ctrl t 3 }
+    ≡ words_of plan (record s { place = put s.place t Halted })
 unfolding words_of
 halted_says plan s t inside =
     let modes : (λ (u : ℕ). mode_code (plan.kind u) (writes_now plan u s.group) (put s.place t Halted u))
     ≡ (λ u. mode_code (plan.kind u) (writes_now plan u s.group) (s.place u)) =
     code_kept (λ u p. mode_code (plan.kind u) (writes_now plan u s.group) p) s.place t Halted
-    (halts_mode (plan.kind t) (writes_now plan t s.group) ∙ ap (mode_code (plan.kind t) (writes_now plan t s.group)) (sym inside)) in
+    (halts_mode (plan.kind t) (writes_now plan t s.group)
+    ∙ ap (mode_code (plan.kind t) (writes_now plan t s.group)) (sym inside)) in
     let nmis : (λ (u : ℕ). nmi_code (plan.kind u) (s.kicked u) (put s.place t Halted u))
     ≡ (λ u. nmi_code (plan.kind u) (s.kicked u) (s.place u)) =
     code_kept (λ u p. nmi_code (plan.kind u) (s.kicked u) p) s.place t Halted
@@ -120,7 +122,8 @@ halt_kept plan moment t local first stage sound padded rule here op step shows i
           ∙ ap (λ (w : View). record w { place = Halted }) (sym own)))
           ∙ sees_place_here plan v stage latched t Halted (sym freed);
       says =
-          ap (λ n. record (families moment.words) { ctrl = put (families moment.words).ctrl t (if n == 0 then 3 else n) }) found
+          ap (λ n. record (families moment.words)
+          { ctrl = put (families moment.words).ctrl t (if n == 0 then 3 else n) }) found
           ∙ ap (λ (w : Families). record w { ctrl = put w.ctrl t 3 }) rule.says
           ∙ halted_says plan (s nobody) t inside;
       gathered = rule.gathered;
@@ -166,7 +169,8 @@ wait_touches t how.Nmi = refl
 
 wait_words :
     (t : ℕ) (h : How) (moment : Running) →
-    (moment.words (word.Ctrl t) == 0) ≡ false → families (words_after moment.words (wait_op t h)) ≡ families moment.words
+    (moment.words (word.Ctrl t) == 0) ≡ false →
+    families (words_after moment.words (wait_op t h)) ≡ families moment.words
 unfolding wait_op
 wait_words t how.Step moment e = load_keeps moment.words (word.Ctrl t)
 wait_words t how.Timeout moment e = cas_keeps moment.words (word.Ctrl t) 0 3 e
@@ -174,7 +178,9 @@ wait_words t how.Nmi moment e = load_keeps moment.words (word.Ctrl t)
 
 -- A sibling.
 
-sibling_op : (plan : Plan) (t : ℕ) (h : How) (at polls mine : ℕ) → operation plan t (at_phase phase.SiblingWait at polls mine) h ≡ Some (wait_op t h)
+sibling_op :
+    (plan : Plan) (t : ℕ) (h : How) (at polls mine : ℕ) →
+    operation plan t (at_phase phase.SiblingWait at polls mine) h ≡ Some (wait_op t h)
 unfolding operation wait_op
 sibling_op plan t how.Step at polls mine = refl
 sibling_op plan t how.Timeout at polls mine = refl
@@ -184,17 +190,22 @@ sibling_goes :
     (plan : Plan) (t : ℕ) (h : How) (at polls mine d : ℕ) →
     is_step h ≡ true →
     (d == 0) ≡ false →
-    after plan t (at_phase phase.SiblingWait at polls mine) h d ≡ by_release (at_phase phase.SiblingWait at polls mine) d
+    after plan t (at_phase phase.SiblingWait at polls mine) h d
+    ≡ by_release (at_phase phase.SiblingWait at polls mine) d
 unfolding after
 sibling_goes plan t how.Step at polls mine d own e =
-    let local = at_phase phase.SiblingWait at polls mine in not_taken (d == 0) (polled local, what.Poll) (by_release local d) e
+    let local =
+    at_phase phase.SiblingWait at polls mine in not_taken (d == 0) (polled local, what.Poll) (by_release local d) e
 sibling_goes plan t how.Timeout at polls mine d own e =
-    let local = at_phase phase.SiblingWait at polls mine in not_taken (d == 0) (to local phase.Halted, what.Halt) (by_release local d) e
+    let local =
+    at_phase phase.SiblingWait at polls mine in not_taken (d == 0) (to local phase.Halted, what.Halt)
+    (by_release local d) e
 sibling_goes plan t how.Nmi at polls mine d own e = cc
 
 -- freed, it goes by what its group reported
 sibling_freed :
-    (plan : Plan) (moment : Running) (t : ℕ) (h : How) (first : Bool) (at polls mine : ℕ) (offer : Option ℕ) (refuses : Bool) →
+    (plan : Plan) (moment : Running) (t : ℕ) (h : How) (first : Bool) (at polls mine : ℕ) (offer : Option ℕ)
+    (refuses : Bool) →
     Sound plan →
     Padded plan →
     RuleBy plan (families moment.words) moment.locals first Going →
@@ -209,21 +220,27 @@ sibling_freed plan moment t h first at polls mine offer refuses sound padded rul
     let s = state plan first moment.locals Going in
     let inside = is_inside plan moment.locals first Going nobody t local here refl in
     let reported : s.group (plan.group t) ≡ Reported (report_by offer refuses) =
-    freed_reported plan (families moment.words) moment.locals first Going t sound padded rule refl freed ∙ ap (λ x. Reported x) report in
+    freed_reported plan (families moment.words) moment.locals first Going t sound padded rule refl freed
+    ∙ ap (λ x. Reported x) report in
     let found : moment.words (word.Ctrl t) ≡ release_code (Reported (report_by offer refuses)) =
     found_freed plan (families moment.words) s t rule.says inside freed ∙ ap release_code reported in
-    let goes = sibling_goes plan t h at polls mine (release_code (Reported (report_by offer refuses))) own (release_told (Reported (report_by offer refuses))) in
+    let goes =
+    sibling_goes plan t h at polls mine (release_code (Reported (report_by offer refuses))) own
+    (release_told (Reported (report_by offer refuses))) in
     by offer refuses report found
     (ap (λ w. after plan t local h (moment.words w)) (wait_touches t h) ∙ ap (after plan t local h) found ∙ goes)
   where
     kept :
         (new : Local) →
-        after plan t (at_phase phase.SiblingWait at polls mine) h (moment.words (touched (wait_op t h))) ≡ (new, what.Inner) →
+        after plan t (at_phase phase.SiblingWait at polls mine) h (moment.words (touched (wait_op t h)))
+        ≡ (new, what.Inner) →
         (moment.words (word.Ctrl t) == 0) ≡ false →
         view plan t first new ≡ view plan t first (at_phase phase.SiblingWait at polls mine) →
-        Knows Online plan t new (state plan first moment.locals Going) → Kept plan (event_of h t) moment (steps plan t h moment)
+        Knows Online plan t new (state plan first moment.locals Going) →
+        Kept plan (event_of h t) moment (steps plan t h moment)
     kept new step some shows row =
-        inner_kept plan moment t h (wait_op t h) (at_phase phase.SiblingWait at polls mine) new first first Going sound padded rule own here
+        inner_kept plan moment t h (wait_op t h)
+        (at_phase phase.SiblingWait at polls mine) new first first Going sound padded rule own here
         (sibling_op plan t h at polls mine)
         step
         (λ other. refl)
@@ -261,12 +278,16 @@ sibling_by :
     (state plan first moment.locals Going).freed t ≡ freed → Kept plan (event_of h t) moment (steps plan t h moment)
 unfolding operation after report_of
 sibling_by plan moment t h first at polls mine true sound padded rule own here online primary freed =
-    sibling_freed plan moment t h first at polls mine (plan.offer (plan.group t)) (plan.refuse (plan.group t)) sound padded rule own here online primary freed refl
+    sibling_freed plan moment t h first at polls mine (plan.offer (plan.group t))
+    (plan.refuse (plan.group t)) sound padded rule own here online primary freed refl
 sibling_by plan moment t how.Step first at polls mine false sound padded rule own here online primary freed =
     let local = at_phase phase.SiblingWait at polls mine in
     let s = state plan first moment.locals Going in
-    let found = found_unfreed plan (families moment.words) s t rule.says (is_inside plan moment.locals first Going nobody t local here refl) freed in
-    poll_kept plan moment t how.Step (Load (word.Ctrl t)) local (polled local) first Going sound padded rule refl here refl
+    let found =
+    found_unfreed plan (families moment.words) s t rule.says
+    (is_inside plan moment.locals first Going nobody t local here refl) freed in
+    poll_kept plan moment t how.Step (Load (word.Ctrl t)) local
+    (polled local) first Going sound padded rule refl here refl
     (ap (after plan t local how.Step) found)
     refl
     (load_keeps moment.words (word.Ctrl t))
@@ -285,16 +306,21 @@ sibling_by plan moment t how.Timeout first at polls mine false sound padded rule
     (is_inside plan moment.locals first Going nobody t local here refl)
     freed
     (ap (λ k. may_halt k (is_primary plan t) Going) online ∙ ap (λ b. not b && true) primary)
-    (subst (λ kind. Knows kind plan t (to local phase.Halted) (record s { place = put s.place t Halted })) (sym online) (primary, refl))
-sibling_by plan moment t how.Nmi first at polls mine false sound padded rule own here online primary freed = absurd (true≢false (sym own))
+    (subst (λ kind. Knows kind plan t (to local phase.Halted) (record s { place = put s.place t Halted })) (sym online)
+    (primary, refl))
+sibling_by plan moment t how.Nmi first at polls mine false sound padded rule own here online primary freed =
+    absurd (true≢false (sym own))
 
 sibling_wait_kept : (h : How) → is_step h ≡ true → KeepsTheRule phase.SiblingWait h
 unfolding KeepsTheRule
 sibling_wait_kept h own plan moment t sound padded rule phase_is =
     let l = moment.locals t in
-    let at_thread = stands_in phase.SiblingWait plan (families moment.words) moment.locals rule.first rule.stage t rule.by phase_is refl in
+    let at_thread =
+    stands_in phase.SiblingWait plan
+    (families moment.words) moment.locals rule.first rule.stage t rule.by phase_is refl in
     let row = at_thread.row in
-    sibling_by plan moment t h rule.first l.at l.polls l.mine ((state plan rule.first moment.locals Going).freed t) sound padded
+    sibling_by plan moment t h rule.first l.at l.polls l.mine
+    ((state plan rule.first moment.locals Going).freed t) sound padded
     (at_going plan (families moment.words) moment.locals rule.first rule.stage row.1 rule.by)
     own at_thread.here at_thread.online row.0 refl
 
@@ -306,7 +332,9 @@ sibling_wait_timeout = sibling_wait_kept how.Timeout refl
 
 -- An Offline thread.
 
-hold_op : (plan : Plan) (t : ℕ) (h : How) (at polls mine : ℕ) → operation plan t (at_phase phase.OfflineHold at polls mine) h ≡ Some (wait_op t h)
+hold_op :
+    (plan : Plan) (t : ℕ) (h : How) (at polls mine : ℕ) →
+    operation plan t (at_phase phase.OfflineHold at polls mine) h ≡ Some (wait_op t h)
 unfolding operation wait_op
 hold_op plan t how.Step at polls mine = refl
 hold_op plan t how.Timeout at polls mine = refl
@@ -327,7 +355,8 @@ hold_goes plan t how.Timeout at polls mine d own e =
 hold_goes plan t how.Nmi at polls mine d own e = cc
 
 hold_by :
-    (plan : Plan) (moment : Running) (t : ℕ) (h : How) (first : Bool) (stage : Stage) (at polls mine : ℕ) (freed : Bool) →
+    (plan : Plan) (moment : Running) (t : ℕ) (h : How) (first : Bool) (stage : Stage) (at polls mine : ℕ)
+    (freed : Bool) →
     Sound plan →
     Padded plan →
     RuleBy plan (families moment.words) moment.locals first stage →
@@ -343,10 +372,12 @@ hold_by plan moment t h first stage at polls mine true sound padded rule own her
     let s = state plan first moment.locals stage in
     let inside = is_inside plan moment.locals first stage nobody t local here refl in
     let found = found_freed plan (families moment.words) s t rule.says inside freed in
-    let some : (moment.words (word.Ctrl t) == 0) ≡ false = ap (λ n. n == 0) found ∙ release_told (s.group (plan.group t)) in
+    let some : (moment.words (word.Ctrl t) == 0) ≡ false =
+    ap (λ n. n == 0) found ∙ release_told (s.group (plan.group t)) in
     inner_kept plan moment t h (wait_op t h) local new first first stage sound padded rule own here
     (hold_op plan t h at polls mine)
-    (ap (λ w. after plan t local h (moment.words w)) (wait_touches t h) ∙ hold_goes plan t h at polls mine (moment.words (word.Ctrl t)) own some)
+    (ap (λ w. after plan t local h (moment.words w)) (wait_touches t h)
+    ∙ hold_goes plan t h at polls mine (moment.words (word.Ctrl t)) own some)
     (λ other. refl)
     (no_primary_leaves plan t first at polls mine (offline_leads_not plan t sound padded offline) (ap is_timeout row.1))
     (wait_words t h moment some)
@@ -355,8 +386,11 @@ hold_by plan moment t h first stage at polls mine true sound padded rule own her
 hold_by plan moment t how.Step first stage at polls mine false sound padded rule own here offline row freed =
     let local = at_phase phase.OfflineHold at polls mine in
     let s = state plan first moment.locals stage in
-    let found = found_unfreed plan (families moment.words) s t rule.says (is_inside plan moment.locals first stage nobody t local here refl) freed in
-    poll_kept plan moment t how.Step (Load (word.Ctrl t)) local (polled local) first stage sound padded rule refl here refl
+    let found =
+    found_unfreed plan (families moment.words) s t rule.says
+    (is_inside plan moment.locals first stage nobody t local here refl) freed in
+    poll_kept plan moment t how.Step (Load (word.Ctrl t)) local
+    (polled local) first stage sound padded rule refl here refl
     (ap (after plan t local how.Step) found)
     refl
     (load_keeps moment.words (word.Ctrl t))
@@ -374,15 +408,20 @@ hold_by plan moment t how.Timeout first stage at polls mine false sound padded r
     (is_inside plan moment.locals first stage nobody t local here refl)
     freed
     (ap (λ k. may_halt k (is_primary plan t) stage) offline)
-    (subst (λ kind. Knows kind plan t (to local phase.Halted) (record s { place = put s.place t Halted })) (sym offline) row)
-hold_by plan moment t how.Nmi first stage at polls mine false sound padded rule own here offline row freed = absurd (true≢false (sym own))
+    (subst (λ kind. Knows kind plan t (to local phase.Halted) (record s { place = put s.place t Halted }))
+    (sym offline) row)
+hold_by plan moment t how.Nmi first stage at polls mine false sound padded rule own here offline row freed =
+    absurd (true≢false (sym own))
 
 offline_hold_kept : (h : How) → is_step h ≡ true → KeepsTheRule phase.OfflineHold h
 unfolding KeepsTheRule
 offline_hold_kept h own plan moment t sound padded rule phase_is =
     let l = moment.locals t in
-    let at_thread = stands_offline phase.OfflineHold plan (families moment.words) moment.locals rule.first rule.stage t rule.by phase_is refl in
-    hold_by plan moment t h rule.first rule.stage l.at l.polls l.mine ((state plan rule.first moment.locals rule.stage).freed t) sound padded rule.by
+    let at_thread =
+    stands_offline phase.OfflineHold plan
+    (families moment.words) moment.locals rule.first rule.stage t rule.by phase_is refl in
+    hold_by plan moment t h rule.first rule.stage l.at l.polls l.mine
+    ((state plan rule.first moment.locals rule.stage).freed t) sound padded rule.by
     own at_thread.here at_thread.offline at_thread.row refl
 
 pub offline_hold_step : KeepsTheRule phase.OfflineHold how.Step

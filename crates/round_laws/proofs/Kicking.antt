@@ -32,7 +32,8 @@ use Rattle.round_laws.proofs.Kind.{KeepsTheRule}
 kicks_view :
     (plan : Plan) (first : Bool) (k polls mine : ℕ) (next : Option ℕ) →
     view plan 0 first (kick_at (at_phase phase.Kicking k polls mine) next)
-    ≡ record (view plan 0 first (at_phase phase.Kicking k polls mine)) { kicks = λ u. is_offline (plan.kind u) && past next u }
+    ≡ record
+    (view plan 0 first (at_phase phase.Kicking k polls mine)) { kicks = λ u. is_offline (plan.kind u) && past next u }
 kicks_view plan first k polls mine (Some l) = refl
 kicks_view plan first k polls mine None = refl
 
@@ -61,12 +62,15 @@ kick_kept plan moment h first stage k polls mine sound padded rule own here offl
     let v = views plan first moment.locals in
     let s = λ (latched : ℕ → Bool). seen plan v stage latched in
     let set = λ (u : ℕ). is_offline (plan.kind u) && past next u in
-    let was : v.kicks 0 ≡ (λ u. is_offline (plan.kind u) && nat_lt u k) = ap (λ w. w.kicks) (view_is plan moment.locals first 0 local here) in
+    let was : v.kicks 0 ≡ (λ u. is_offline (plan.kind u) && nat_lt u k) =
+    ap (λ w. w.kicks) (view_is plan moment.locals first 0 local here) in
     let now : set ≡ put (v.kicks 0) k true =
     fun_ext (offline_goes_on plan k next padded offline refl) ∙ ap (λ table. put table k true) (sym was) in
-    let not_kicked : v.kicks 0 k ≡ false = ap (λ table. table k) was ∙ and_false (is_offline (plan.kind k)) (nat_lt k k) (not_itself k) in
+    let not_kicked : v.kicks 0 k ≡ false =
+    ap (λ table. table k) was ∙ and_false (is_offline (plan.kind k)) (nat_lt k k) (not_itself k) in
     let out = unkicked_is_out plan (families moment.words) moment.locals first stage k rule offline not_kicked in
-    let kicks : (latched : ℕ → Bool) → Kicks plan 0 k (s latched) (record (s latched) { kicked = put (s latched).kicked k true }) =
+    let kicks : (latched : ℕ → Bool) →
+    Kicks plan 0 k (s latched) (record (s latched) { kicked = put (s latched).kicked k true }) =
     λ latched. record {
       by_zero = refl;
       is_in = is_inside plan moment.locals first stage latched 0 local here refl;
@@ -76,7 +80,9 @@ kick_kept plan moment h first stage k polls mine sound padded rule own here offl
       change = refl;
     } in
     let code : 1 ≡ nmi_code (plan.kind k) true ((state plan first moment.locals stage).place k) =
-    sym (ap (λ kind. nmi_code kind true ((state plan first moment.locals stage).place k)) offline ∙ ap (nmi_code Offline true) out) in
+    sym
+    (ap (λ kind. nmi_code kind true ((state plan first moment.locals stage).place k)) offline
+    ∙ ap (nmi_code Offline true) out) in
     step_kept plan moment 0 h (Store (word.Nmi k) 1) local (kick_at local next) (what.Kick k) first first stage stage
     (λ latched. record (s latched) { kicked = put (s latched).kicked k true })
     sound padded rule here refl refl (λ other. refl)
@@ -84,17 +90,21 @@ kick_kept plan moment h first stage k polls mine sound padded rule own here offl
       sees = λ latched.
           ap (λ x. seen plan x stage latched)
           (only_kicks v 0 (view plan 0 first (kick_at local next)) set
-          (kicks_view plan first k polls mine next ∙ ap (λ (w : View). record w { kicks = set }) (sym (view_is plan moment.locals first 0 local here))))
+          (kicks_view plan first k polls mine next
+          ∙ ap (λ (w : View). record w { kicks = set }) (sym (view_is plan moment.locals first 0 local here))))
           ∙ sees_kicks plan v stage latched set
           ∙ ap (λ z. record (s latched) { kicked = z }) now;
       says =
           ap (λ (w : Families). record w { nmi = put w.nmi k 1 }) rule.says
           ∙ ap (λ n. record (words_of plan (state plan first moment.locals stage)) { nmi = n })
-          (coded (λ u b. nmi_code (plan.kind u) b ((state plan first moment.locals stage).place u)) (v.kicks 0) k true 1 code);
+          (coded (λ u b. nmi_code (plan.kind u) b ((state plan first moment.locals stage).place u))
+          (v.kicks 0) k true 1 code);
       gathered = rule.gathered;
       later = later_kicked 0 (state plan first moment.locals stage) k;
     })
-    (subst (λ kind. Knows kind plan 0 (kick_at local next) (record (state plan first moment.locals stage) { kicked = put (v.kicks 0) k true }))
+    (subst
+    (λ kind. Knows kind plan 0 (kick_at local next)
+    (record (state plan first moment.locals stage) { kicked = put (v.kicks 0) k true }))
     (sym sound.thread_0_is_online)
     (kicks_row plan k polls mine next _ padded offline refl))
     (own_round plan 0 h _ _ (what.Kick k) own (refl, kicks moment.latched) (refl, kicks moment.latched))
@@ -102,10 +112,12 @@ kick_kept plan moment h first stage k polls mine sound padded rule own here offl
 kicking_kept : (h : How) → is_step h ≡ true → KeepsTheRule phase.Kicking h
 unfolding KeepsTheRule
 kicking_kept h own plan moment t sound padded rule phase_is =
-    let at_thread = stands_in phase.Kicking plan (families moment.words) moment.locals rule.first rule.stage t rule.by phase_is refl in
+    let at_thread =
+    stands_in phase.Kicking plan (families moment.words) moment.locals rule.first rule.stage t rule.by phase_is refl in
     let zero = at_thread.row.0 in
     subst (λ u. Kept plan (event_of h u) moment (steps plan u h moment)) (sym zero)
-    (kick_kept plan moment h rule.first rule.stage (moment.locals t).at (moment.locals t).polls (moment.locals t).mine sound padded rule.by own
+    (kick_kept plan moment h rule.first rule.stage (moment.locals t).at (moment.locals t).polls
+    (moment.locals t).mine sound padded rule.by own
     (ap moment.locals (sym zero) ∙ at_thread.here)
     at_thread.row.1)
 

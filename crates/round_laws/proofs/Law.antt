@@ -91,7 +91,9 @@ each_kind p how.Timeout own goes = each_timeout p goes
 each_kind p how.Nmi own goes = cc
 
 -- a thread with an operation is in no last phase
-has_operation : (plan : Plan) (t : ℕ) (local : Local) (h : How) (op : Op) (p : Phase) → operation_in plan t local h p ≡ Some op → is_last p ≡ false
+has_operation :
+    (plan : Plan) (t : ℕ) (local : Local) (h : How) (op : Op) (p : Phase) → operation_in plan t local h p ≡ Some op →
+    is_last p ≡ false
 has_operation plan t local h op phase.Left e = cc
 has_operation plan t local h op phase.Halted e = cc
 has_operation plan t local h op phase.Withdrawn e = cc
@@ -108,12 +110,14 @@ step_law plan words locals latched t local h op found sound padded rule own same
     let kept : Kept plan (event_of h t) moment (steps plan t h moment) =
     each_kind (locals t).phase h own goes plan moment t sound padded rule refl in
     let step = stepped plan t h moment op local next (sym same) does (ap (after plan t local h) read) in
-    let there : Kept plan (event_of h t) moment (moved moment t op next) = subst (λ x. Kept plan (event_of h t) moment x) step kept in
+    let there : Kept plan (event_of h t) moment (moved moment t op next) =
+    subst (λ x. Kept plan (event_of h t) moment x) step kept in
     subst
     (λ f.
     let words' = put_word words (touched op) (written op f) in
     let locals' = put locals t next.0 in
     Rule plan (families words') locals'
-    × Round plan (shown plan (families words) locals latched) (event_of h t) next.1 (shown plan (families words') locals' latched))
+    × Round plan (shown plan (families words) locals latched) (event_of h t) next.1
+    (shown plan (families words') locals' latched))
     read
     (there.rule, there.round)

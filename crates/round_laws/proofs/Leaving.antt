@@ -36,7 +36,9 @@ use Rattle.round_laws.proofs.Writing.{own_group}
 
 -- Its place changes, and its mode.
 
-leaves_mode : (kind : Kind) (writes : Bool) (x : ThreadResult) → is_absent kind ≡ false → 8 + number_of x ≡ mode_code kind writes (Left x)
+leaves_mode :
+    (kind : Kind) (writes : Bool) (x : ThreadResult) → is_absent kind ≡ false →
+    8 + number_of x ≡ mode_code kind writes (Left x)
 leaves_mode Online writes x e = refl
 leaves_mode Offline writes x e = refl
 leaves_mode KindAbsent writes x e = cc
@@ -51,7 +53,8 @@ left_says :
     (plan : Plan) (s : State) (t : ℕ) (x : ThreadResult) →
     is_absent (plan.kind t) ≡ false →
     s.place t ≡ In →
-    record (words_of plan s) { mode = put (words_of plan s).mode t (8 + number_of x) } ≡ words_of plan (record s { place = put s.place t (Left x) })
+    record (words_of plan s) { mode = put (words_of plan s).mode t (8 + number_of x) }
+    ≡ words_of plan (record s { place = put s.place t (Left x) })
 unfolding words_of
 left_says plan s t x present inside =
     let ctrls : (λ (u : ℕ). ctrl_code (put s.place t (Left x) u) (s.freed u) (s.group (plan.group u)))
@@ -63,7 +66,9 @@ left_says plan s t x present inside =
     code_kept (λ u p. nmi_code (plan.kind u) (s.kicked u) p) s.place t (Left x)
     (leaves_nmi (plan.kind t) (s.kicked t) x ∙ ap (nmi_code (plan.kind t) (s.kicked t)) (sym inside)) in
     λ i. record (words_of plan s) {
-      mode = coded (λ u p. mode_code (plan.kind u) (writes_now plan u s.group) p) s.place t (Left x) (8 + number_of x) (leaves_mode (plan.kind t) (writes_now plan t s.group) x present) i;
+      mode =
+          coded (λ u p. mode_code (plan.kind u) (writes_now plan u s.group) p) s.place t (Left x) (8 + number_of x)
+          (leaves_mode (plan.kind t) (writes_now plan t s.group) x present) i;
       ctrl = (sym ctrls) i;
       nmi = (sym nmis) i;
     }
@@ -80,7 +85,8 @@ leave_kept :
     told mine ≡ mine →
     MayLeave plan t (result_of mine) (seen plan (views plan first moment.locals) stage moment.latched) →
     (let s = state plan first moment.locals stage in
-    Knows (plan.kind t) plan t (at_phase phase.Left at polls mine) (record s { place = put s.place t (Left (result_of mine)) })) →
+    Knows (plan.kind t) plan t (at_phase phase.Left at polls mine)
+    (record s { place = put s.place t (Left (result_of mine)) })) →
     Kept plan (event_of h t) moment (steps plan t h moment)
 unfolding operation after put words_of views
 leave_kept plan moment t h first stage at polls mine sound padded rule own here present told_is may knows =
@@ -93,8 +99,10 @@ leave_kept plan moment t h first stage at polls mine sound padded rule own here 
     let shows = view_is plan moment.locals first t local here in
     let inside = is_inside plan moment.locals first stage nobody t local here refl in
     let raw : v.place t ≡ In = ap (λ (w : View). w.place) shows in
-    let leaves : Leaves plan t x (s moment.latched) (next moment.latched) = record { is_in = inside; may = may; change = refl } in
-    step_kept plan moment t h (Store (word.Mode t) (8 + told mine)) local new (what.Leave x) first first stage stage next
+    let leaves : Leaves plan t x (s moment.latched) (next moment.latched) =
+    record { is_in = inside; may = may; change = refl } in
+    step_kept plan moment t h (Store (word.Mode t) (8 + told mine)) local new
+    (what.Leave x) first first stage stage next
     sound padded rule here refl
     (ap {A = ℕ} {B = Local × What} (λ n. (at_phase phase.Left at polls n, what.Leave x)) told_is)
     (λ other. refl)
@@ -157,7 +165,8 @@ arrived_or_zero false first = refl
 
 -- after a drop
 may_drop :
-    (plan : Plan) (words : Families) (locals : ℕ → Local) (latched : ℕ → Bool) (first : Bool) (stage : Stage) (t at polls : ℕ) →
+    (plan : Plan) (words : Families) (locals : ℕ → Local) (latched : ℕ → Bool) (first : Bool) (stage : Stage)
+    (t at polls : ℕ) →
     RuleBy plan words locals first stage →
     locals t ≡ at_phase phase.Leaving at polls 5 →
     plan.kind t ≡ Online →
@@ -190,7 +199,8 @@ may_drop plan words locals latched first stage t at polls rule here online dropp
 
 -- after a go, as a primary or not
 may_go :
-    (plan : Plan) (words : Families) (locals : ℕ → Local) (latched : ℕ → Bool) (first : Bool) (stage : Stage) (t at polls mine : ℕ) (primary : Bool) →
+    (plan : Plan) (words : Families) (locals : ℕ → Local) (latched : ℕ → Bool) (first : Bool) (stage : Stage)
+    (t at polls mine : ℕ) (primary : Bool) →
     Sound plan →
     Padded plan →
     RuleBy plan words locals first stage →
@@ -198,7 +208,8 @@ may_go :
     plan.kind t ≡ Online →
     is_primary plan t ≡ primary →
     is_timeout mine ≡ false →
-    Ends false plan t mine (state plan first locals stage) → MayLeave plan t (result_of mine) (seen plan (views plan first locals) stage latched)
+    Ends false plan t mine (state plan first locals stage) →
+    MayLeave plan t (result_of mine) (seen plan (views plan first locals) stage latched)
 unfolding views result_for
 may_go plan words locals latched first stage t at polls mine true sound padded rule here online primary goes ends =
     let v = views plan first locals in
@@ -223,7 +234,8 @@ may_go plan words locals latched first stage t at polls mine true sound padded r
 may_go plan words locals latched first stage t at polls mine false sound padded rule here online primary goes ends =
     let g = plan.group t in
     let r = report_of plan g in
-    let reported = freed_reported plan words locals first stage t sound padded rule (ap is_dropped ends.0) (ends.2 primary) in
+    let reported =
+    freed_reported plan words locals first stage t sound padded rule (ap is_dropped ends.0) (ends.2 primary) in
     let own : result_of mine ≡ okay_for r =
     ap result_of ends.1
     ∙ number_back (if is_primary plan t then r else okay_for r)
@@ -247,7 +259,8 @@ ends_stay true plan t mine s place ends = ends
 ends_stay false plan t mine s place ends = ends
 
 leaves_online :
-    (plan : Plan) (moment : Running) (t : ℕ) (h : How) (first : Bool) (stage : Stage) (at polls mine : ℕ) (drops : Bool) →
+    (plan : Plan) (moment : Running) (t : ℕ) (h : How) (first : Bool) (stage : Stage) (at polls mine : ℕ)
+    (drops : Bool) →
     Sound plan →
     Padded plan →
     RuleBy plan (families moment.words) moment.locals first stage →
@@ -255,7 +268,8 @@ leaves_online :
     moment.locals t ≡ at_phase phase.Leaving at polls mine →
     plan.kind t ≡ Online →
     is_timeout mine ≡ drops →
-    Ends drops plan t mine (state plan first moment.locals stage) → Kept plan (event_of h t) moment (steps plan t h moment)
+    Ends drops plan t mine (state plan first moment.locals stage) →
+    Kept plan (event_of h t) moment (steps plan t h moment)
 leaves_online plan moment t h first stage at polls mine true sound padded rule own here online drops ends =
     let s = state plan first moment.locals stage in
     let five : mine ≡ 5 = equal_numbers mine 5 drops in
@@ -263,17 +277,22 @@ leaves_online plan moment t h first stage at polls mine true sound padded rule o
     (here ∙ ap (at_phase phase.Leaving at polls) five)
     (ap is_absent online)
     refl
-    (may_drop plan (families moment.words) moment.locals moment.latched first stage t at polls rule (here ∙ ap (at_phase phase.Leaving at polls) five) online ends)
-    (subst (λ kind. Knows kind plan t (at_phase phase.Left at polls 5) (record s { place = put s.place t (Left results.Timeout) })) (sym online) ends)
+    (may_drop plan (families moment.words) moment.locals moment.latched first stage t at polls rule
+    (here ∙ ap (at_phase phase.Leaving at polls) five) online ends)
+    (subst
+    (λ kind. Knows kind plan t (at_phase phase.Left at polls 5)
+    (record s { place = put s.place t (Left results.Timeout) })) (sym online) ends)
 leaves_online plan moment t h first stage at polls mine false sound padded rule own here online goes ends =
     let s = state plan first moment.locals stage in
     let place = put s.place t (Left (result_of mine)) in
     leave_kept plan moment t h first stage at polls mine sound padded rule own here
     (ap is_absent online)
     (result_told plan t mine ends.1)
-    (may_go plan (families moment.words) moment.locals moment.latched first stage t at polls mine (is_primary plan t) sound padded rule here online refl goes ends)
+    (may_go plan (families moment.words) moment.locals moment.latched first stage t at polls mine
+    (is_primary plan t) sound padded rule here online refl goes ends)
     (subst (λ kind. Knows kind plan t (at_phase phase.Left at polls mine) (record s { place = place })) (sym online)
-    (subst (λ b. Ends b plan t mine (record s { place = place })) (sym goes) (ends_stay false plan t mine s place ends)))
+    (subst (λ b. Ends b plan t mine (record s { place = place })) (sym goes)
+    (ends_stay false plan t mine s place ends)))
 
 leaves_offline :
     (plan : Plan) (moment : Running) (t : ℕ) (h : How) (first : Bool) (stage : Stage) (at polls mine : ℕ) →
@@ -294,11 +313,14 @@ leaves_offline plan moment t h first stage at polls mine sound padded rule own h
     refl
     (as_offline (record {
       is_offline = offline;
-      has_arrived = ap (λ (w : View). w.arrived) (view_is plan moment.locals first t (at_phase phase.Leaving at polls 6) here');
+      has_arrived =
+          ap (λ (w : View). w.arrived) (view_is plan moment.locals first t (at_phase phase.Leaving at polls 6) here');
       is_freed = row.1;
       result = refl;
     }))
-    (subst (λ kind. Knows kind plan t (at_phase phase.Left at polls 6) (record s { place = put s.place t (Left results.Offline) })) (sym offline)
+    (subst
+    (λ kind. Knows kind plan t (at_phase phase.Left at polls 6)
+    (record s { place = put s.place t (Left results.Offline) })) (sym offline)
     ((row.0.0, refl), row.1))
 
 leaves_by :
@@ -309,14 +331,17 @@ leaves_by :
     is_step h ≡ true →
     (moment.locals t).phase ≡ phase.Leaving →
     plan.kind t ≡ kind →
-    Knows kind plan t (moment.locals t) (state plan rule.first moment.locals rule.stage) → Kept plan (event_of h t) moment (steps plan t h moment)
+    Knows kind plan t (moment.locals t) (state plan rule.first moment.locals rule.stage) →
+    Kept plan (event_of h t) moment (steps plan t h moment)
 leaves_by plan moment t h Online sound padded rule own e kind knows =
     let l = moment.locals t in
-    leaves_online plan moment t h rule.first rule.stage l.at l.polls l.mine (is_timeout l.mine) sound padded rule.by own (is_at l phase.Leaving e) kind refl
+    leaves_online plan moment t h rule.first rule.stage l.at l.polls l.mine
+    (is_timeout l.mine) sound padded rule.by own (is_at l phase.Leaving e) kind refl
     (subst (λ p. OnlineKnows p plan t l.at l.mine (state plan rule.first moment.locals rule.stage)) e knows)
 leaves_by plan moment t h Offline sound padded rule own e kind knows =
     let l = moment.locals t in
-    leaves_offline plan moment t h rule.first rule.stage l.at l.polls l.mine sound padded rule.by own (is_at l phase.Leaving e) kind
+    leaves_offline plan moment t h rule.first rule.stage l.at l.polls l.mine sound padded rule.by own
+    (is_at l phase.Leaving e) kind
     (subst (λ p. OfflineKnows p t l.mine (state plan rule.first moment.locals rule.stage)) e knows)
 leaves_by plan moment t h KindAbsent sound padded rule own e kind knows =
     let same : phase.Leaving ≡ phase.Nothing = sym e ∙ knows in absurd (leaving_not_nothing same)

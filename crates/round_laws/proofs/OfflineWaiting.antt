@@ -72,16 +72,20 @@ polls_kept plan moment first stage at polls mine sound padded rule here some oth
     let found : moment.words word.OffIn ≡ offline_arrived plan v.arrived = ap (λ (w : Families). w.off_in) rule.says in
     let absentee = offline_missing plan v.arrived (λ e. other (found ∙ e)) in
     poll_kept plan moment 0 how.Step (Load word.OffIn) local (polled local) first stage sound padded rule refl here refl
-    (not_taken (moment.words word.OffIn == offline_count plan) (to local phase.Arriving, what.Inner) (polled local, what.Poll)
+    (not_taken (moment.words word.OffIn == offline_count plan) (to local phase.Arriving, what.Inner)
+    (polled local, what.Poll)
     (different (moment.words word.OffIn) (offline_count plan) other))
     refl
     (load_keeps moment.words word.OffIn)
-    (subst (λ kind. Knows kind plan 0 (polled local) (state plan first moment.locals stage)) (sym sound.thread_0_is_online) (refl, some))
+    (subst (λ kind. Knows kind plan 0 (polled local) (state plan first moment.locals stage))
+    (sym sound.thread_0_is_online) (refl, some))
     (for_offline (record {
       by_zero = refl;
       is_in = is_inside plan moment.locals first stage moment.latched 0 local here refl;
       not_arrived = ap (λ (w : View). w.arrived) shows;
-      all_kicked = λ k offline. ap (λ (w : View). w.kicks k) shows ∙ and_both (is_offline (plan.kind k)) true (ap is_offline offline) refl;
+      all_kicked =
+          λ k offline. ap (λ (w : View). w.kicks k) shows
+          ∙ and_both (is_offline (plan.kind k)) true (ap is_offline offline) refl;
       missing = absentee.who;
       missing_is_offline = absentee.is_offline;
       missing_has_not_arrived = absentee.not_arrived;
@@ -116,11 +120,14 @@ drops_kept plan moment first at polls mine sound padded rule here some =
       by_zero = refl;
       is_in = is_inside plan moment.locals first Gathering moment.latched 0 local here refl;
       not_arrived = missing;
-      all_kicked = λ k offline. ap (λ (w : View). w.kicks k) shows ∙ and_both (is_offline (plan.kind k)) true (ap is_offline offline) refl;
+      all_kicked =
+          λ k offline. ap (λ (w : View). w.kicks k) shows
+          ∙ and_both (is_offline (plan.kind k)) true (ap is_offline offline) refl;
       one_kicked = some;
       change = ap (λ d. record (s moment.latched) { stage = DroppedByKick; is_decider = d }) (sym nobody_decides);
     } in
-    step_kept plan moment 0 how.Timeout (Cas word.Decide 0 2) local new what.DropKick first false Gathering DroppedByKick next
+    step_kept plan moment 0 how.Timeout
+    (Cas word.Decide 0 2) local new what.DropKick first false Gathering DroppedByKick next
     sound padded rule here refl (ap (after plan 0 local how.Timeout) found) (λ other. absurd (other refl))
     (record {
       sees = λ latched.
@@ -142,7 +149,8 @@ drops_kept plan moment first at polls mine sound padded rule here some =
           };
       later = later_stage 0 (state plan first moment.locals Gathering) DroppedByKick nobody refl (λ e u f. cc);
     })
-    (subst (λ kind. Knows kind plan 0 new (next nobody)) (sym sound.thread_0_is_online) (drop_row plan 0 local (next nobody) refl))
+    (subst (λ kind. Knows kind plan 0 new (next nobody)) (sym sound.thread_0_is_online)
+    (drop_row plan 0 local (next nobody) refl))
     drops
 
 -- and another dropped: it takes the drop path too
@@ -159,7 +167,8 @@ finds_drop plan moment first stage at polls mine sound padded rule here dropped 
     let new = drop_path plan 0 local in
     let found : (moment.words word.Decide == 0) ≡ false =
     ap (λ (w : Families). w.decide == 0) rule.says ∙ dropped_not_0 stage dropped in
-    inner_kept plan moment 0 how.Timeout (Cas word.Decide 0 2) local new first false stage sound padded rule refl here refl
+    inner_kept plan moment 0 how.Timeout
+    (Cas word.Decide 0 2) local new first false stage sound padded rule refl here refl
     (ap (λ b. (new, if b then what.DropKick else what.Inner)) found)
     (λ other. absurd (other refl))
     (drop_view plan 0 false local padded)
@@ -191,20 +200,27 @@ pub offline_wait_step : KeepsTheRule phase.OfflineWait how.Step
 unfolding KeepsTheRule
 offline_wait_step plan moment t sound padded rule phase_is =
     let l = moment.locals t in
-    let at_thread = stands_in phase.OfflineWait plan (families moment.words) moment.locals rule.first rule.stage t rule.by phase_is refl in
+    let at_thread =
+    stands_in phase.OfflineWait plan
+    (families moment.words) moment.locals rule.first rule.stage t rule.by phase_is refl in
     let zero = at_thread.row.0 in
     let here = ap moment.locals (sym zero) ∙ at_thread.here in
     subst (λ u. Kept plan (event_of how.Step u) moment (steps plan u how.Step moment)) (sym zero)
     (elim (same_or_not (moment.words word.OffIn) (offline_count plan)) [
       | inl full ↦ goes_on_kept plan moment rule.first rule.stage l.at l.polls l.mine sound padded rule.by here full
-      | inr other ↦ polls_kept plan moment rule.first rule.stage l.at l.polls l.mine sound padded rule.by here at_thread.row.1 other
+      | inr other ↦
+          polls_kept plan moment rule.first rule.stage l.at l.polls l.mine sound padded rule.by here at_thread.row.1
+          other
     ])
 
 pub offline_wait_timeout : KeepsTheRule phase.OfflineWait how.Timeout
 unfolding KeepsTheRule
 offline_wait_timeout plan moment t sound padded rule phase_is =
     let l = moment.locals t in
-    let at_thread = stands_in phase.OfflineWait plan (families moment.words) moment.locals rule.first rule.stage t rule.by phase_is refl in
+    let at_thread =
+    stands_in phase.OfflineWait plan
+    (families moment.words) moment.locals rule.first rule.stage t rule.by phase_is refl in
     let zero = at_thread.row.0 in
     subst (λ u. Kept plan (event_of how.Timeout u) moment (steps plan u how.Timeout moment)) (sym zero)
-    (timeout_by plan moment rule.first rule.stage l.at l.polls l.mine sound padded rule.by (ap moment.locals (sym zero) ∙ at_thread.here) at_thread.row.1)
+    (timeout_by plan moment rule.first rule.stage l.at l.polls l.mine sound padded rule.by
+    (ap moment.locals (sym zero) ∙ at_thread.here) at_thread.row.1)

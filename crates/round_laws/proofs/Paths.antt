@@ -13,7 +13,8 @@ use Rattle.rendezvous_rule.specs.Knows.{Knows}
 use Rattle.rule_laws.proofs.Frame.{and_false, equal_numbers, different}
 use Rattle.rule_laws.proofs.Loops.{offline_begins, offline_found}
 
--- the view of a thread inside that has kicked all, and of which nothing more shows but whether it has arrived, and decides
+-- the view of a thread inside that has kicked all, and of which nothing more shows but whether it has arrived, and
+-- decides
 abbrev pub plain : Plan → ℕ → Bool → Bool → View
 plain plan t arrived deciding =
     record {
@@ -30,11 +31,14 @@ plain plan t arrived deciding =
 
 go_view_by :
     (plan : Plan) (t : ℕ) (first : Bool) (local : Local) (primary : Bool) →
-    view plan t first (if primary then to local phase.Reading else wait_in local phase.SiblingWait) ≡ plain plan t true false
+    view plan t first (if primary then to local phase.Reading else wait_in local phase.SiblingWait)
+    ≡ plain plan t true false
 go_view_by plan t first local true = refl
 go_view_by plan t first local false = refl
 
-pub go_view : (plan : Plan) (t : ℕ) (first : Bool) (local : Local) → view plan t first (go_path plan t local) ≡ plain plan t true false
+pub go_view :
+    (plan : Plan) (t : ℕ) (first : Bool) (local : Local) →
+    view plan t first (go_path plan t local) ≡ plain plan t true false
 go_view plan t first local = go_view_by plan t first local (is_primary plan t)
 
 go_row_by :
@@ -45,7 +49,8 @@ go_row_by :
 go_row_by plan t local true s e going = (e, going)
 go_row_by plan t local false s e going = (e, going)
 
-pub go_row : (plan : Plan) (t : ℕ) (local : Local) (s : State) → s.stage ≡ Going → Knows Online plan t (go_path plan t local) s
+pub go_row :
+    (plan : Plan) (t : ℕ) (local : Local) (s : State) → s.stage ≡ Going → Knows Online plan t (go_path plan t local) s
 go_row plan t local s going = go_row_by plan t local (is_primary plan t) s refl going
 
 -- The drop path.
@@ -63,15 +68,18 @@ drop_view_by :
 drop_view_by plan t first local true (Some k) padded zero e =
     ap (λ (f : ℕ → Bool). record (plain plan t (not (t == 0) || first) false) { settles = f })
     (fun_ext (λ u.
-    ap (λ b. (t == 0) && b) (offline_begins plan (Some k) padded e u ∙ sym (and_false (is_offline (plan.kind u)) false refl))))
+    ap (λ b. (t == 0) && b)
+    (offline_begins plan (Some k) padded e u ∙ sym (and_false (is_offline (plan.kind u)) false refl))))
 drop_view_by plan t first local true None padded zero e =
     ap (λ (f : ℕ → Bool). record (plain plan t (not (t == 0) || first) false) { settles = f })
     (fun_ext (λ u.
-    ap (λ b. (t == 0) && b) (offline_begins plan None padded e u ∙ sym (and_false (is_offline (plan.kind u)) false refl))))
+    ap (λ b. (t == 0) && b)
+    (offline_begins plan None padded e u ∙ sym (and_false (is_offline (plan.kind u)) false refl))))
 drop_view_by plan t first local false next padded zero e =
     ap (λ (f : ℕ → Bool). record (plain plan t (not (t == 0) || first) false) { settles = f })
     (fun_ext (λ u.
-    ap (λ b. b && (is_offline (plan.kind u) && true)) zero ∙ sym (ap (λ b. b && (is_offline (plan.kind u) && false)) zero)))
+    ap (λ b. b && (is_offline (plan.kind u) && true)) zero
+    ∙ sym (ap (λ b. b && (is_offline (plan.kind u) && false)) zero)))
 
 -- first says whether thread 0 has arrived
 pub drop_view :
@@ -89,7 +97,8 @@ drop_row_by plan t local true None s zero e dropped = dropped
 drop_row_by plan t local false next s zero e dropped = dropped
 
 pub drop_row :
-    (plan : Plan) (t : ℕ) (local : Local) (s : State) → is_dropped s.stage ≡ true → Knows Online plan t (drop_path plan t local) s
+    (plan : Plan) (t : ℕ) (local : Local) (s : State) → is_dropped s.stage ≡ true →
+    Knows Online plan t (drop_path plan t local) s
 drop_row plan t local s dropped = drop_row_by plan t local (t == 0) (offline_from plan 0) s refl refl dropped
 
 -- A thread that has arrived, thread 0 too, has arrived on the drop path.

@@ -39,23 +39,30 @@ abbrev before_report : Option ℕ → GroupPlace
 before_report None = Waiting
 before_report (Some o) = Written
 
-by_mine : (offer : Option ℕ) (refuses : Bool) → (if number_of (report_by offer refuses) == number_of results.Current then Waiting else Written) ≡ before_report offer
+by_mine :
+    (offer : Option ℕ) (refuses : Bool) →
+    (if number_of (report_by offer refuses) == number_of results.Current then Waiting else Written)
+    ≡ before_report offer
 by_mine None refuses = refl
 by_mine (Some o) true = refl
 by_mine (Some o) false = refl
 
-begun_same : (offer : Option ℕ) (refuses : Bool) → has_begun (Reported (report_by offer refuses)) ≡ has_begun (before_report offer)
+begun_same :
+    (offer : Option ℕ) (refuses : Bool) →
+    has_begun (Reported (report_by offer refuses)) ≡ has_begun (before_report offer)
 begun_same None refuses = refl
 begun_same (Some o) true = refl
 begun_same (Some o) false = refl
 
 revision_same :
     (plan : Plan) (g : ℕ) (offer : Option ℕ) (refuses : Bool) (x : ThreadResult) →
-    plan.offer g ≡ offer → plan.refuse g ≡ refuses → revision_in plan g (Reported x) ≡ revision_in plan g (before_report offer)
+    plan.offer g ≡ offer → plan.refuse g ≡ refuses →
+    revision_in plan g (Reported x) ≡ revision_in plan g (before_report offer)
 revision_same plan g (Some o) refuses x e f = refl
 revision_same plan g None true x e f = ap (λ b. if b then plan.rev0 g else unwrap_or (plan.offer g) (plan.rev0 g)) f
 revision_same plan g None false x e f =
-    ap (λ b. if b then plan.rev0 g else unwrap_or (plan.offer g) (plan.rev0 g)) f ∙ ap (λ o. unwrap_or o (plan.rev0 g)) e
+    ap (λ b. if b then plan.rev0 g else unwrap_or (plan.offer g) (plan.rev0 g)) f
+    ∙ ap (λ o. unwrap_or o (plan.rev0 g)) e
 
 -- the model's report
 model_report :
@@ -64,21 +71,26 @@ model_report :
     Padded plan →
     plan.offer g ≡ offer →
     plan.refuse g ≡ refuses →
-    items.report_of (before_report offer) offer (revision_in plan g (before_report offer)) ≡ Some (report_by offer refuses)
+    items.report_of (before_report offer) offer (revision_in plan g (before_report offer))
+    ≡ Some (report_by offer refuses)
 model_report plan g None refuses sound padded e f = refl
 model_report plan g (Some o) true sound padded e f =
     let low = offer_exceeds plan g o sound padded e in
-    let first : write_of plan g ≡ plan.rev0 g = ap (λ b. if b then plan.rev0 g else unwrap_or (plan.offer g) (plan.rev0 g)) f in
+    let first : write_of plan g ≡ plan.rev0 g =
+    ap (λ b. if b then plan.rev0 g else unwrap_or (plan.offer g) (plan.rev0 g)) f in
     let other : (write_of plan g == o) ≡ false = different (write_of plan g) o (λ same. omega arith) in
     ap (λ b. Some (if b then results.Updated else results.Error)) other
 model_report plan g (Some o) false sound padded e f =
     let same : write_of plan g ≡ o =
-    ap (λ b. if b then plan.rev0 g else unwrap_or (plan.offer g) (plan.rev0 g)) f ∙ ap (λ x. unwrap_or x (plan.rev0 g)) e in
+    ap (λ b. if b then plan.rev0 g else unwrap_or (plan.offer g) (plan.rev0 g)) f
+    ∙ ap (λ x. unwrap_or x (plan.rev0 g)) e in
     ap (λ b. Some (if b then results.Updated else results.Error)) (same_numbers (write_of plan g) o same)
 
 -- What others see of it: the report.
 
-starts : (at polls mine : ℕ) (next : Option ℕ) → free_at (at_phase phase.Reporting at polls mine) next ≡ free_at (at_phase phase.Freeing at polls mine) next
+starts :
+    (at polls mine : ℕ) (next : Option ℕ) →
+    free_at (at_phase phase.Reporting at polls mine) next ≡ free_at (at_phase phase.Freeing at polls mine) next
 starts at polls mine (Some l) = refl
 starts at polls mine None = refl
 
@@ -97,7 +109,8 @@ reports_view plan t first at polls mine x padded primary result same =
     ∙ (λ i. record (view plan t first (at_phase phase.Reporting at polls mine)) {
       write = if primary i then Reported (same i) else Waiting;
       frees = λ u.
-          is_primary plan t && (sibling_begins plan t next padded refl u ∙ sym (and_false (is_sibling plan t u) false refl)) i;
+          is_primary plan t &&
+          (sibling_begins plan t next padded refl u ∙ sym (and_false (is_sibling plan t u) false refl)) i;
     })
 
 reports_kept :
@@ -136,7 +149,8 @@ reports_kept plan moment t h first at polls mine sound padded rule own here onli
     ∙ ap (λ w. mode_code (plan.kind t) (has_begun w) ((s nobody).place t)) was
     ∙ ap (λ b. mode_code (plan.kind t) b ((s nobody).place t)) (sym (begun_same offer refuses)) in
     let rev : moment.words (word.Rev g) ≡ revision_in plan g (Reported x) =
-    ap (λ (w : Families). w.rev g) rule.says ∙ ap (revision_in plan g) was ∙ sym (revision_same plan g offer refuses x refl refl) in
+    ap (λ (w : Families). w.rev g) rule.says ∙ ap (revision_in plan g) was
+    ∙ sym (revision_same plan g offer refuses x refl refl) in
     let nobody_freed : (u : ℕ) → plan.group u ≡ g → (s nobody).freed u ≡ false =
     λ u same.
     let leads : plan.primary (plan.group u) ≡ t = ap plan.primary same ∙ primary_is plan t primary in
@@ -152,7 +166,8 @@ reports_kept plan moment t h first at polls mine sound padded rule own here onli
       is_in = inside;
       going = refl;
       result =
-          ap (λ w. items.report_of w offer (revision_in plan g w)) was ∙ model_report plan g offer refuses sound padded refl refl;
+          ap (λ w. items.report_of w offer (revision_in plan g w)) was
+          ∙ model_report plan g offer refuses sound padded refl refl;
       change =
           ap (λ r. record (s moment.latched) { group = put (s moment.latched).group g (Reported x); revision = r })
           (put_back (s moment.latched).revision g (revision_in plan g (Reported x))
@@ -162,7 +177,9 @@ reports_kept plan moment t h first at polls mine sound padded rule own here onli
     sound padded rule here refl
     (λ i. (free_at (at_phase phase.Reporting at polls (told_is i)) next_one, what.Report g (back i)))
     (λ other. refl)
-    (group_change plan (families moment.words) (families (words_after moment.words (Store (word.Res g) (told mine)))) moment.locals first t (moment.words (word.Mode t)) local new (Reported x)
+    (group_change plan (families moment.words)
+    (families (words_after moment.words (Store (word.Res g) (told mine)))) moment.locals first t
+    (moment.words (word.Mode t)) local new (Reported x)
     sound padded rule here online primary
     (reports_view plan t first at polls mine x padded primary result back)
     (λ i. record (families moment.words) {
@@ -184,7 +201,9 @@ reporting_kept : (h : How) → is_step h ≡ true → KeepsTheRule phase.Reporti
 unfolding KeepsTheRule
 reporting_kept h own plan moment t sound padded rule phase_is =
     let l = moment.locals t in
-    let at_thread = stands_in phase.Reporting plan (families moment.words) moment.locals rule.first rule.stage t rule.by phase_is refl in
+    let at_thread =
+    stands_in phase.Reporting plan
+    (families moment.words) moment.locals rule.first rule.stage t rule.by phase_is refl in
     let row = at_thread.row in
     reports_kept plan moment t h rule.first l.at l.polls l.mine sound padded
     (at_going plan (families moment.words) moment.locals rule.first rule.stage row.1 rule.by)

@@ -56,7 +56,9 @@ no_primary_leaves plan t first at polls mine primary goes =
 
 -- It was told that its group has the offer, and finds it there.
 
-offer_runs : (plan : Plan) (g : ℕ) (offer : Option ℕ) (refuses : Bool) → plan.refuse g ≡ refuses → report_by offer refuses ≡ results.Updated → write_of plan g ≡ offer_or_rev0 plan g
+offer_runs :
+    (plan : Plan) (g : ℕ) (offer : Option ℕ) (refuses : Bool) → plan.refuse g ≡ refuses →
+    report_by offer refuses ≡ results.Updated → write_of plan g ≡ offer_or_rev0 plan g
 offer_runs plan g None refuses e f = cc
 offer_runs plan g (Some o) true e f = cc
 offer_runs plan g (Some o) false e f = ap (λ b. if b then plan.rev0 g else unwrap_or (plan.offer g) (plan.rev0 g)) e
@@ -76,15 +78,19 @@ checks_kept plan moment t h first at polls mine sound padded rule own here onlin
     let new = at_phase phase.Leaving at polls 2 in
     let g = plan.group t in
     let s = state plan first moment.locals Going in
-    let reported = freed_reported plan (families moment.words) moment.locals first Going t sound padded rule refl row.1 in
+    let reported =
+    freed_reported plan (families moment.words) moment.locals first Going t sound padded rule refl row.1 in
     let found : moment.words (word.Rev g) ≡ offer_or_rev0 plan g =
     ap (λ (w : Families). w.rev g) rule.says
     ∙ ap (revision_in plan g) reported
     ∙ offer_runs plan g (plan.offer g) (plan.refuse g) refl row.2 in
     let result : 2 ≡ number_of (result_for plan t) =
-    sym (ap (λ b. number_of (if b then report_of plan g else okay_for (report_of plan g))) row.0.0 ∙ ap (λ x. number_of (okay_for x)) row.2) in
+    sym
+    (ap (λ b. number_of (if b then report_of plan g else okay_for (report_of plan g))) row.0.0
+    ∙ ap (λ x. number_of (okay_for x)) row.2) in
     inner_kept plan moment t h (Load (word.Rev g)) local new first first Going sound padded rule own here refl
-    (ap {A = Bool} {B = Local × What} (λ b. (with_result local (if b then 2 else 4) phase.Leaving, what.Inner)) (same_numbers (moment.words (word.Rev g)) (offer_or_rev0 plan g) found))
+    (ap {A = Bool} {B = Local × What} (λ b. (with_result local (if b then 2 else 4) phase.Leaving, what.Inner))
+    (same_numbers (moment.words (word.Rev g)) (offer_or_rev0 plan g) found))
     (λ other. refl)
     (no_primary_leaves plan t first at polls 2 row.0.0 refl)
     (load_keeps moment.words (word.Rev g))
@@ -94,7 +100,9 @@ checks_kept plan moment t h first at polls mine sound padded rule own here onlin
 -- It was told that it has not, and takes over what its primary reported.
 
 passed_on : (offer : Option ℕ) (refuses : Bool) → report_by offer refuses ≢ results.Updated →
-    (is_timeout (number_of (report_by offer refuses)) ≡ false) × (okay_for (report_by offer refuses) ≡ report_by offer refuses) × (told (number_of (report_by offer refuses)) ≡ number_of (report_by offer refuses))
+    (is_timeout (number_of (report_by offer refuses)) ≡ false)
+    × (okay_for (report_by offer refuses) ≡ report_by offer refuses)
+    × (told (number_of (report_by offer refuses)) ≡ number_of (report_by offer refuses))
 passed_on None refuses other = (refl, refl, refl)
 passed_on (Some o) true other = (refl, refl, refl)
 passed_on (Some o) false other = absurd (other refl)
@@ -116,7 +124,8 @@ copies_kept plan moment t h first at polls mine sound padded rule own here onlin
     let n : ℕ = number_of r in
     let new = at_phase phase.Leaving at polls n in
     let s = state plan first moment.locals Going in
-    let reported = freed_reported plan (families moment.words) moment.locals first Going t sound padded rule refl row.1 in
+    let reported =
+    freed_reported plan (families moment.words) moment.locals first Going t sound padded rule refl row.1 in
     let found : moment.words (word.Res g) ≡ n = ap (λ (w : Families). w.res g) rule.says ∙ ap res_code reported in
     let told_on = passed_on (plan.offer g) (plan.refuse g) row.2 in
     let result : n ≡ number_of (result_for plan t) =
@@ -134,7 +143,9 @@ sibling_check_kept : (h : How) → is_step h ≡ true → KeepsTheRule phase.Sib
 unfolding KeepsTheRule
 sibling_check_kept h own plan moment t sound padded rule phase_is =
     let l = moment.locals t in
-    let at_thread = stands_in phase.SiblingCheck plan (families moment.words) moment.locals rule.first rule.stage t rule.by phase_is refl in
+    let at_thread =
+    stands_in phase.SiblingCheck plan
+    (families moment.words) moment.locals rule.first rule.stage t rule.by phase_is refl in
     let row = at_thread.row in
     checks_kept plan moment t h rule.first l.at l.polls l.mine sound padded
     (at_going plan (families moment.words) moment.locals rule.first rule.stage row.0.1 rule.by)
@@ -144,7 +155,9 @@ sibling_copy_kept : (h : How) → is_step h ≡ true → KeepsTheRule phase.Sibl
 unfolding KeepsTheRule
 sibling_copy_kept h own plan moment t sound padded rule phase_is =
     let l = moment.locals t in
-    let at_thread = stands_in phase.SiblingCopy plan (families moment.words) moment.locals rule.first rule.stage t rule.by phase_is refl in
+    let at_thread =
+    stands_in phase.SiblingCopy plan
+    (families moment.words) moment.locals rule.first rule.stage t rule.by phase_is refl in
     let row = at_thread.row in
     copies_kept plan moment t h rule.first l.at l.polls l.mine sound padded
     (at_going plan (families moment.words) moment.locals rule.first rule.stage row.0.1 rule.by)

@@ -26,7 +26,9 @@ pub record StandsOffline (p : Phase) (plan : Plan) (t : ℕ) (local : Local) (s 
   pub offline : plan.kind t ≡ Offline
   pub row : OfflineKnows p t local.mine s
 
-never_online : (p : Phase) (plan : Plan) (t at mine : ℕ) (s : State) → is_offline_phase p ≡ true → OnlineKnows p plan t at mine s → ⊥
+never_online :
+    (p : Phase) (plan : Plan) (t at mine : ℕ) (s : State) → is_offline_phase p ≡ true →
+    OnlineKnows p plan t at mine s → ⊥
 never_online phase.OfflineCount plan t at mine s own row = row
 never_online phase.OfflineHold plan t at mine s own row = row
 never_online phase.Withdrawn plan t at mine s own row = row
@@ -37,9 +39,11 @@ never_nothing p own e = let same : false ≡ true = ap is_offline_phase (sym e) 
 
 offline_row :
     (p : Phase) (plan : Plan) (t : ℕ) (local : Local) (s : State) (kind : Kind) →
-    local.phase ≡ p → is_offline_phase p ≡ true → Knows kind plan t local s → (kind ≡ Offline) × OfflineKnows p t local.mine s
+    local.phase ≡ p → is_offline_phase p ≡ true → Knows kind plan t local s →
+    (kind ≡ Offline) × OfflineKnows p t local.mine s
 offline_row p plan t local s Online e own knows =
-    absurd (never_online p plan t local.at local.mine s own (subst (λ x. OnlineKnows x plan t local.at local.mine s) e knows))
+    absurd
+    (never_online p plan t local.at local.mine s own (subst (λ x. OnlineKnows x plan t local.at local.mine s) e knows))
 offline_row p plan t local s Offline e own knows = (refl, subst (λ x. OfflineKnows x t local.mine s) e knows)
 offline_row p plan t local s Absent e own knows = absurd (never_nothing p own (sym e ∙ knows))
 

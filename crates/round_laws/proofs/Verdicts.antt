@@ -26,7 +26,8 @@ none_by plan test None e none = refl
 none_by plan test (Some t) e none =
     let low = is_lowest plan test t e in absurd (true≢false (sym low.passes ∙ none t low.within))
 
-lowest_by : (plan : Plan) (test : ℕ → Bool) (t : ℕ) (o : Option ℕ) → lowest plan test ≡ o → IsLowest plan test t → o ≡ Some t
+lowest_by :
+    (plan : Plan) (test : ℕ → Bool) (t : ℕ) (o : Option ℕ) → lowest plan test ≡ o → IsLowest plan test t → o ≡ Some t
 lowest_by plan test t None e low = absurd (true≢false (sym low.passes ∙ is_none plan test e t low.within))
 lowest_by plan test t (Some u) e low =
     let other = is_lowest plan test u e in
@@ -45,7 +46,8 @@ below_two d e f = grind (arith, nat_tests)
 refused_holds :
     (plan : Plan) (outcome : Outcome) (t : ℕ) (updated : Bool) →
     some_updated outcome ≡ updated →
-    AllEnded plan outcome → outcome.decide < 2 → IsLowest plan (refused_at plan outcome) t → LoadVerdict plan outcome (refused updated t)
+    AllEnded plan outcome → outcome.decide < 2 → IsLowest plan (refused_at plan outcome) t →
+    LoadVerdict plan outcome (refused updated t)
 refused_holds plan outcome t true e ended low least = (ended, low, least, e)
 refused_holds plan outcome t false e ended low least = (ended, low, least, e)
 
@@ -64,7 +66,8 @@ rest_holds plan outcome false true refusing ended a b e =
 rest_holds plan outcome false false None ended a b e =
     (ended, below_two outcome.decide a b, is_none plan (refused_at plan outcome) e)
 rest_holds plan outcome false false (Some t) ended a b e =
-    refused_holds plan outcome t (some_updated outcome) refl ended (below_two outcome.decide a b) (is_lowest plan (refused_at plan outcome) t e)
+    refused_holds plan outcome t (some_updated outcome) refl ended (below_two outcome.decide a b)
+    (is_lowest plan (refused_at plan outcome) t e)
 
 holds :
     (plan : Plan) (outcome : Outcome) (halted unfinished : Option ℕ) →
@@ -85,7 +88,8 @@ holds plan outcome None None a b =
 
 pub verdict_holds : VerdictHolds
 unfolding load_verdict
-verdict_holds plan outcome = holds plan outcome (lowest plan (halted_at outcome)) (lowest plan (unfinished_at outcome)) refl refl
+verdict_holds plan outcome =
+    holds plan outcome (lowest plan (halted_at outcome)) (lowest plan (unfinished_at outcome)) refl refl
 
 -- The function at the outcomes that each answer names.
 
@@ -108,7 +112,10 @@ pub verdict_is_one : VerdictIsOne
 unfolding load_verdict
 verdict_is_one plan outcome (Panicked t) h =
     let a = at_lowest plan (halted_at outcome) t h in
-    sym (ap (λ o. verdict_from outcome o (lowest plan (unfinished_at outcome)) (dropped (outcome.decide == 2) (nat_le 3 outcome.decide) outcome) (lowest plan (refused_at plan outcome))) a)
+    sym
+    (ap
+    (λ o. verdict_from outcome o (lowest plan (unfinished_at outcome))
+    (dropped (outcome.decide == 2) (nat_le 3 outcome.decide) outcome) (lowest plan (refused_at plan outcome))) a)
 verdict_is_one plan outcome (Unfinished t) h =
     let a = at_none plan (halted_at outcome) h.0 in
     let b = at_lowest plan (unfinished_at outcome) t h.1 in rw (a, b) refl

@@ -41,7 +41,8 @@ use Rattle.round_laws.proofs.Paths.{plain, go_view, go_row, drop_arrived, drop_r
 -- Thread 0 that waits while nothing is decided is not the only Online thread.
 
 -- another Online thread than thread 0 is counted
-another_online : (plan : Plan) → Sound plan → Padded plan → (u : ℕ) → 0 ≢ u → plan.kind u ≡ Online → 1 < online_count plan
+another_online :
+    (plan : Plan) → Sound plan → Padded plan → (u : ℕ) → 0 ≢ u → plan.kind u ≡ Online → 1 < online_count plan
 unfolding online_count
 another_online plan sound padded u other online =
     let test = λ (v : ℕ). is_online (plan.kind v) in
@@ -49,7 +50,8 @@ another_online plan sound padded u other online =
     let some : 0 < count test 1 (plan.threads - 1) =
     count_some test 1 (plan.threads - 1) u (omega arith) (omega arith) (ap is_online online) in
     let first : test 0 ≡ true = ap is_online sound.thread_0_is_online in
-    let all : online_count plan ≡ cond (test 0) 1 0 + count test 1 (plan.threads - 1) = count_zero_first plan test sound.some_thread in
+    let all : online_count plan ≡ cond (test 0) 1 0 + count test 1 (plan.threads - 1) =
+    count_zero_first plan test sound.some_thread in
     let all' : online_count plan ≡ 1 + count test 1 (plan.threads - 1) = rw first at all in
     omega arith
 
@@ -63,7 +65,9 @@ alone_here plan arrived sound padded alone here t online =
       | inr other ↦ absurd (alone (another_online plan sound padded t other online))
     ]
 
-decider_by : (p : Phase) (plan : Plan) (t at polls mine : ℕ) (s : State) (kind : Kind) → decides_in p ≡ true → Knows kind plan t (at_phase p at polls mine) s → kind ≡ Online
+decider_by :
+    (p : Phase) (plan : Plan) (t at polls mine : ℕ) (s : State) (kind : Kind) → decides_in p ≡ true →
+    Knows kind plan t (at_phase p at polls mine) s → kind ≡ Online
 decider_by p plan t at polls mine s Online e knows = refl
 decider_by phase.Deciding plan t at polls mine s Offline e knows = absurd knows
 decider_by p plan t at polls mine s Offline e knows = cc
@@ -90,10 +94,14 @@ not_alone plan words locals first sound padded rule arrived decides =
     elim (more_or_not (online_count plan)) [
       | inl more ↦ more
       | inr alone ↦
-          let there = rule.gathered.somebody_decides refl (alone_here plan (views plan first locals).arrived sound padded alone arrived) in
+          let there =
+          rule.gathered.somebody_decides refl
+          (alone_here plan (views plan first locals).arrived sound padded alone arrived) in
           elim (same_or_not 0 there.0) [
             | inl same ↦ absurd (true≢false (sym there.1 ∙ ap (views plan first locals).deciding (sym same) ∙ decides))
-            | inr other ↦ another_online plan sound padded there.0 other (decider_online plan words locals first Gathering there.0 rule there.1)
+            | inr other ↦
+                another_online plan sound padded there.0 other
+                (decider_online plan words locals first Gathering there.0 rule there.1)
           ]
     ]
   where
@@ -106,7 +114,9 @@ not_alone plan words locals first sound padded rule arrived decides =
 
 -- What others see of it.
 
-waiting_view : (plan : Plan) (t : ℕ) (first : Bool) (at polls mine : ℕ) → view plan t first (at_phase phase.Waiting at polls mine) ≡ plain plan t true false
+waiting_view :
+    (plan : Plan) (t : ℕ) (first : Bool) (at polls mine : ℕ) →
+    view plan t first (at_phase phase.Waiting at polls mine) ≡ plain plan t true false
 waiting_view plan t first at polls mine = refl
 
 -- Nothing is decided, and it is out of patience: it drops.
@@ -125,8 +135,11 @@ drops_kept plan moment t first at polls mine sound padded rule here online =
     let s = λ (latched : ℕ → Bool). seen plan v Gathering latched in
     let next = λ (latched : ℕ → Bool). record (s latched) { stage = DroppedBy t; is_decider = nobody } in
     let found : moment.words word.Decide ≡ 0 = ap (λ (w : Families). w.decide) rule.says in
-    let arrived : v.arrived t ≡ true = ap (λ (w : View). w.arrived) (view_is plan moment.locals first t local here ∙ waiting_view plan t first at polls mine) in
-    let decides : v.deciding t ≡ false = ap (λ (w : View). w.deciding) (view_is plan moment.locals first t local here) in
+    let arrived : v.arrived t ≡ true =
+    ap (λ (w : View). w.arrived)
+    (view_is plan moment.locals first t local here ∙ waiting_view plan t first at polls mine) in
+    let decides : v.deciding t ≡ false =
+    ap (λ (w : View). w.deciding) (view_is plan moment.locals first t local here) in
     let drops : Drops plan t round.Timeout (s moment.latched) (next moment.latched) =
     record {
       out_of_patience = refl;
@@ -137,7 +150,8 @@ drops_kept plan moment t first at polls mine sound padded rule here online =
       decides_not = decides;
       change = refl;
     } in
-    step_kept plan moment t how.Timeout (Cas word.Decide 0 (3 + t)) local new what.Drop first ((t == 0) || first) Gathering (DroppedBy t) next
+    step_kept plan moment t how.Timeout (Cas word.Decide 0 (3 + t)) local new what.Drop first
+    ((t == 0) || first) Gathering (DroppedBy t) next
     sound padded rule here refl (ap (after plan t local how.Timeout) found) (given_anew t first)
     (record {
       sees = λ latched.
@@ -158,8 +172,12 @@ drops_kept plan moment t first at polls mine sound padded rule here online =
             dropped_by_online = λ u e. ap plan.kind (sym (same_thread t u e)) ∙ online;
             zero_dropped = λ e.
                 let zero = same_thread t 0 e in
-                let zero_arrived : v.arrived 0 ≡ true = ap v.arrived (sym zero) ∙ arrived in
-                (zero_arrived, not_alone plan (families moment.words) moment.locals first sound padded rule zero_arrived (ap v.deciding (sym zero) ∙ decides));
+                let zero_arrived : v.arrived 0 ≡ true = ap v.arrived (sym zero) ∙ arrived in (
+                  zero_arrived,
+                  not_alone plan
+                      (families moment.words) moment.locals first sound padded rule zero_arrived
+                      (ap v.deciding (sym zero) ∙ decides),
+                );
           };
       later = later_stage t (state plan first moment.locals Gathering) (DroppedBy t) nobody refl (λ e u f. cc);
     })
@@ -175,12 +193,16 @@ drops_kept plan moment t first at polls mine sound padded rule here online =
 
 -- The decision is made: it takes the path that it finds.
 
-took : (plan : Plan) (t : ℕ) (local : Local) (h : How) (d : ℕ) → is_step h ≡ true → local.phase ≡ phase.Waiting → (d == 0) ≡ false → after plan t local h d ≡ by_decision plan t local d
+took :
+    (plan : Plan) (t : ℕ) (local : Local) (h : How) (d : ℕ) → is_step h ≡ true → local.phase ≡ phase.Waiting →
+    (d == 0) ≡ false → after plan t local h d ≡ by_decision plan t local d
 unfolding after
 took plan t local how.Step d own e f =
-    ap (λ p. after_in plan t local how.Step d p) e ∙ not_taken (d == 0) (polled local, what.Poll) (by_decision plan t local d) f
+    ap (λ p. after_in plan t local how.Step d p) e
+    ∙ not_taken (d == 0) (polled local, what.Poll) (by_decision plan t local d) f
 took plan t local how.Timeout d own e f =
-    ap (λ p. after_in plan t local how.Timeout d p) e ∙ not_taken (d == 0) (drop_path plan t local, what.Drop) (by_decision plan t local d) f
+    ap (λ p. after_in plan t local how.Timeout d p) e
+    ∙ not_taken (d == 0) (drop_path plan t local, what.Drop) (by_decision plan t local d) f
 took plan t local how.Nmi d own e f = cc
 
 took_op : (plan : Plan) (t : ℕ) (h : How) → Op
@@ -189,13 +211,16 @@ took_op plan t h = Load word.Decide
 
 took_words :
     (plan : Plan) (t : ℕ) (h : How) (moment : Running) →
-    (moment.words word.Decide == 0) ≡ false → families (words_after moment.words (took_op plan t h)) ≡ families moment.words
+    (moment.words word.Decide == 0) ≡ false →
+    families (words_after moment.words (took_op plan t h)) ≡ families moment.words
 unfolding took_op
 took_words plan t how.Step moment e = load_keeps moment.words word.Decide
 took_words plan t how.Timeout moment e = cas_keeps moment.words word.Decide 0 (3 + t) e
 took_words plan t how.Nmi moment e = load_keeps moment.words word.Decide
 
-took_does : (plan : Plan) (t : ℕ) (h : How) (at polls mine : ℕ) → operation plan t (at_phase phase.Waiting at polls mine) h ≡ Some (took_op plan t h)
+took_does :
+    (plan : Plan) (t : ℕ) (h : How) (at polls mine : ℕ) →
+    operation plan t (at_phase phase.Waiting at polls mine) h ≡ Some (took_op plan t h)
 unfolding operation took_op
 took_does plan t how.Step at polls mine = refl
 took_does plan t how.Timeout at polls mine = refl
@@ -273,7 +298,8 @@ polls_kept plan moment t first at polls mine sound padded rule here online =
     let local = at_phase phase.Waiting at polls mine in
     let v = views plan first moment.locals in
     let found : moment.words word.Decide ≡ 0 = ap (λ (w : Families). w.decide) rule.says in
-    poll_kept plan moment t how.Step (Load word.Decide) local (polled local) first Gathering sound padded rule refl here refl
+    poll_kept plan moment t how.Step (Load word.Decide) local
+    (polled local) first Gathering sound padded rule refl here refl
     (ap (after plan t local how.Step) found)
     refl
     (load_keeps moment.words word.Decide)
@@ -281,7 +307,9 @@ polls_kept plan moment t first at polls mine sound padded rule here online =
     (for_decision (record {
       is_online = online;
       is_in = is_inside plan moment.locals first Gathering moment.latched t local here refl;
-      has_arrived = ap (λ (w : View). w.arrived) (view_is plan moment.locals first t local here ∙ waiting_view plan t first at polls mine);
+      has_arrived =
+          ap (λ (w : View). w.arrived)
+          (view_is plan moment.locals first t local here ∙ waiting_view plan t first at polls mine);
       gathering = refl;
       decides_not = ap (λ (w : View). w.deciding) (view_is plan moment.locals first t local here);
     }))
@@ -298,7 +326,8 @@ waits_by plan moment t how.Step first Gathering at polls mine sound padded rule 
     polls_kept plan moment t first at polls mine sound padded rule here online
 waits_by plan moment t how.Timeout first Gathering at polls mine sound padded rule own here online =
     drops_kept plan moment t first at polls mine sound padded rule here online
-waits_by plan moment t how.Nmi first Gathering at polls mine sound padded rule own here online = absurd (true≢false (sym own))
+waits_by plan moment t how.Nmi first Gathering at polls mine sound padded rule own here online =
+    absurd (true≢false (sym own))
 waits_by plan moment t h first Going at polls mine sound padded rule own here online =
     takes_go plan moment t h first at polls mine sound padded rule own here online
 waits_by plan moment t h first DroppedByKick at polls mine sound padded rule own here online =
@@ -310,8 +339,10 @@ waiting_kept : (h : How) → is_step h ≡ true → KeepsTheRule phase.Waiting h
 unfolding KeepsTheRule
 waiting_kept h own plan moment t sound padded rule phase_is =
     let l = moment.locals t in
-    let at_thread = stands_in phase.Waiting plan (families moment.words) moment.locals rule.first rule.stage t rule.by phase_is refl in
-    waits_by plan moment t h rule.first rule.stage l.at l.polls l.mine sound padded rule.by own at_thread.here at_thread.online
+    let at_thread =
+    stands_in phase.Waiting plan (families moment.words) moment.locals rule.first rule.stage t rule.by phase_is refl in
+    waits_by plan moment t h rule.first rule.stage l.at l.polls l.mine sound padded rule.by own at_thread.here
+    at_thread.online
 
 pub waiting_step : KeepsTheRule phase.Waiting how.Step
 waiting_step = waiting_kept how.Step refl

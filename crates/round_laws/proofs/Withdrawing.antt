@@ -39,14 +39,19 @@ use Rattle.round_laws.proofs.Freeing.{unfreed}
 settles_view :
     (plan : Plan) (first : Bool) (k polls : ℕ) (next : Option ℕ) →
     view plan 0 first (withdraw_at (at_phase phase.Withdrawing k polls 5) next)
-    ≡ record (view plan 0 first (at_phase phase.Withdrawing k polls 5)) { settles = λ u. is_offline (plan.kind u) && past next u }
+    ≡ record
+    (view plan 0 first (at_phase phase.Withdrawing k polls 5)) {
+      settles = λ u. is_offline
+          (plan.kind u) && past next u;
+    }
 settles_view plan first k polls (Some l) = refl
 settles_view plan first k polls None = refl
 
 releases_view :
     (plan : Plan) (first : Bool) (k polls : ℕ) (next : Option ℕ) →
     view plan 0 first (withdraw_at (at_phase phase.Releasing k polls 5) next)
-    ≡ record (view plan 0 first (at_phase phase.Releasing k polls 5)) { settles = λ u. is_offline (plan.kind u) && past next u }
+    ≡ record
+    (view plan 0 first (at_phase phase.Releasing k polls 5)) { settles = λ u. is_offline (plan.kind u) && past next u }
 releases_view plan first k polls (Some l) = refl
 releases_view plan first k polls None = refl
 
@@ -122,9 +127,12 @@ come_code Withdrawn e = cc
 come_code Absent e = cc
 
 -- What both steps have in common, where the loop is at k in this phase.
-record Settling (plan : Plan) (words : Families) (locals : ℕ → Local) (first : Bool) (stage : Stage) (k : ℕ) : Type 0 where
+record Settling (plan : Plan) (words : Families) (locals : ℕ → Local) (first : Bool) (stage : Stage)
+    (k : ℕ) : Type 0 where
   unsettled : (views plan first locals).settles 0 k ≡ false
-  grown : (λ (u : ℕ). is_offline (plan.kind u) && past (offline_from plan (k + 1)) u) ≡ put ((views plan first locals).settles 0) k true
+  grown :
+      (λ (u : ℕ). is_offline (plan.kind u) && past (offline_from plan (k + 1)) u)
+      ≡ put ((views plan first locals).settles 0) k true
   kicked : (views plan first locals).kicks 0 k ≡ true
   -- after a drop no primary has freed anybody
   unfreed : (views plan first locals).frees (plan.primary (plan.group k)) k ≡ false
@@ -151,23 +159,27 @@ settling plan words locals first stage k local sound padded rule here settles ki
     λ g.
     elim (waits_or_not (s.group g)) [
       | inl waits ↦ waits
-      | inr begun ↦ absurd (dropped_not_going stage dropped (begun_going plan words locals first stage g sound padded rule begun))
+      | inr begun ↦
+          absurd (dropped_not_going stage dropped (begun_going plan words locals first stage g sound padded rule begun))
     ] in
     record {
       unsettled = ap (λ f. f k) was ∙ and_false (is_offline (plan.kind k)) (nat_lt k k) (not_itself k);
       grown =
-          fun_ext (offline_goes_on plan k (offline_from plan (k + 1)) padded offline refl) ∙ ap (λ table. put table k true) (sym was);
+          fun_ext (offline_goes_on plan k (offline_from plan (k + 1)) padded offline refl)
+          ∙ ap (λ table. put table k true) (sym was);
       kicked = ap (λ (w : View). w.kicks k) (view_is plan locals first 0 local here) ∙ kicks;
       unfreed =
           not_so (v.frees (plan.primary (plan.group k)) k)
           (λ f.
           let reported = frees_reported plan words locals first stage k sound padded rule f in
-          let same : Waiting ≡ Reported (report_of plan (plan.group k)) = sym (not_begun (plan.group k)) ∙ reported in cc);
+          let same : Waiting ≡ Reported (report_of plan (plan.group k)) =
+          sym (not_begun (plan.group k)) ∙ reported in cc);
       waits = not_begun (plan.group k);
     }
 
 settles_sees :
-    (plan : Plan) (locals : ℕ → Local) (first : Bool) (stage : Stage) (latched : ℕ → Bool) (k : ℕ) (local : Local) (set : ℕ → Bool) →
+    (plan : Plan) (locals : ℕ → Local) (first : Bool) (stage : Stage) (latched : ℕ → Bool) (k : ℕ) (local : Local)
+    (set : ℕ → Bool) →
     (let v = views plan first locals in
     let s = seen plan v stage latched in
     locals 0 ≡ local →
@@ -186,7 +198,8 @@ settles_sees plan locals first stage latched k local set here grown =
     ∙ sees_settles plan v stage latched k
 
 -- the words, where the code of its place stays in all but its kick
-withdrawn_mode : (kind : Kind) (writes : Bool) → kind ≡ Offline → mode_code kind writes Withdrawn ≡ mode_code kind writes Out
+withdrawn_mode :
+    (kind : Kind) (writes : Bool) → kind ≡ Offline → mode_code kind writes Withdrawn ≡ mode_code kind writes Out
 withdrawn_mode kind writes e = ap (λ k. mode_code k writes Withdrawn) e ∙ sym (ap (λ k. mode_code k writes Out) e)
 
 withdrawn_says :
@@ -194,13 +207,15 @@ withdrawn_says :
     plan.kind k ≡ Offline →
     s.place k ≡ Out →
     3 ≡ nmi_code (plan.kind k) (s.kicked k) Withdrawn →
-    record (words_of plan s) { nmi = put (words_of plan s).nmi k 3 } ≡ words_of plan (record s { place = put s.place k Withdrawn })
+    record (words_of plan s) { nmi = put (words_of plan s).nmi k 3 }
+    ≡ words_of plan (record s { place = put s.place k Withdrawn })
 unfolding words_of
 withdrawn_says plan s k offline out code =
     let modes : (λ (u : ℕ). mode_code (plan.kind u) (writes_now plan u s.group) (put s.place k Withdrawn u))
     ≡ (λ u. mode_code (plan.kind u) (writes_now plan u s.group) (s.place u)) =
     code_kept (λ u p. mode_code (plan.kind u) (writes_now plan u s.group) p) s.place k Withdrawn
-    (withdrawn_mode (plan.kind k) (writes_now plan k s.group) offline ∙ ap (mode_code (plan.kind k) (writes_now plan k s.group)) (sym out)) in
+    (withdrawn_mode (plan.kind k) (writes_now plan k s.group) offline
+    ∙ ap (mode_code (plan.kind k) (writes_now plan k s.group)) (sym out)) in
     let ctrls : (λ (u : ℕ). ctrl_code (put s.place k Withdrawn u) (s.freed u) (s.group (plan.group u)))
     ≡ (λ u. ctrl_code (s.place u) (s.freed u) (s.group (plan.group u))) =
     code_kept (λ u p. ctrl_code p (s.freed u) (s.group (plan.group u))) s.place k Withdrawn
@@ -239,7 +254,9 @@ withdraw_kept plan moment h first stage k polls sound padded rule own here offli
     ∙ ap (λ b. nmi_code Offline b ((s nobody).place k)) c.kicked
     ∙ ap (nmi_code Offline true) out in
     let code : 3 ≡ nmi_code (plan.kind k) ((s nobody).kicked k) Withdrawn =
-    sym (ap (λ kind. nmi_code kind ((s nobody).kicked k) Withdrawn) offline ∙ ap (λ b. nmi_code Offline b Withdrawn) c.kicked) in
+    sym
+    (ap (λ kind. nmi_code kind ((s nobody).kicked k) Withdrawn) offline
+    ∙ ap (λ b. nmi_code Offline b Withdrawn) c.kicked) in
     let withdraws : Withdraws 0 k (s moment.latched) (next moment.latched) =
     record {
       dropped = dropped;
@@ -256,20 +273,32 @@ withdraw_kept plan moment h first stage k polls sound padded rule own here offli
     (record {
       sees = λ latched.
           ap (λ w. seen plan (put_view v 0 w) stage latched) (settles_view plan first k polls to_next)
-          ∙ settles_sees plan moment.locals first stage latched k local (λ u. is_offline (plan.kind u) && past to_next u) here c.grown
-          ∙ ap (λ p. record (s latched) { place = put (s latched).place k (place_seen p true); freed = put (s latched).freed k (freed_seen p (v.frees (plan.primary (plan.group k)) k) true) }) raw
+          ∙ settles_sees plan moment.locals first stage latched k local
+          (λ u. is_offline (plan.kind u) && past to_next u) here c.grown
+          ∙ ap
+          (λ p. record
+          (s latched) {
+            place = put (s latched).place k (place_seen p true);
+            freed = put (s latched).freed k
+                (freed_seen p (v.frees (plan.primary (plan.group k)) k) true);
+          }) raw
           ∙ ap (λ f. record (s latched) { place = put (s latched).place k Withdrawn; freed = f })
           (put_back (s latched).freed k (v.frees (plan.primary (plan.group k)) k)
           (sym (ap (λ p. freed_seen p (v.frees (plan.primary (plan.group k)) k) (v.settles 0 k)) raw)));
       says =
-          ap (λ n. record (families moment.words) { nmi = put (families moment.words).nmi k (if n == 1 then 3 else n) }) found
+          ap (λ n. record (families moment.words)
+          { nmi = put (families moment.words).nmi k (if n == 1 then 3 else n) }) found
           ∙ ap (λ (w : Families). record w { nmi = put w.nmi k 3 }) rule.says
           ∙ withdrawn_says plan (s nobody) k offline out code;
       gathered = rule.gathered;
-      later = later_place 0 (s nobody) k Withdrawn (λ e. let same : false ≡ true = ap has_come (sym out) ∙ e in cc) (λ e. refl);
+      later =
+          later_place 0 (s nobody) k Withdrawn (λ e. let same : false ≡ true = ap has_come (sym out) ∙ e in cc)
+          (λ e. refl);
     })
-    (subst (λ kind. Knows kind plan 0 new (next nobody)) (sym sound.thread_0_is_online) (settles_row plan k polls to_next (next nobody) refl dropped))
-    (own_round plan 0 h (s moment.latched) (next moment.latched) (what.Withdraw k) own (refl, withdraws) (refl, withdraws))
+    (subst (λ kind. Knows kind plan 0 new (next nobody)) (sym sound.thread_0_is_online)
+    (settles_row plan k polls to_next (next nobody) refl dropped))
+    (own_round plan 0 h (s moment.latched) (next moment.latched) (what.Withdraw k) own (refl, withdraws)
+    (refl, withdraws))
 
 -- It has come: thread 0 turns to its release.
 came_kept :
@@ -281,7 +310,8 @@ came_kept :
     moment.locals 0 ≡ at_phase phase.Withdrawing k polls 5 →
     plan.kind k ≡ Offline →
     is_dropped stage ≡ true →
-    has_come ((state plan first moment.locals stage).place k) ≡ true → Kept plan (event_of h 0) moment (steps plan 0 h moment)
+    has_come ((state plan first moment.locals stage).place k) ≡ true →
+    Kept plan (event_of h 0) moment (steps plan 0 h moment)
 unfolding operation after words_of
 came_kept plan moment h first stage k polls sound padded rule own here offline dropped come =
     let local = at_phase phase.Withdrawing k polls 5 in
@@ -357,19 +387,31 @@ release_kept plan moment h first stage k polls sound padded rule own here offlin
     (record {
       sees = λ latched.
           ap (λ w. seen plan (put_view v 0 w) stage latched) (releases_view plan first k polls to_next)
-          ∙ settles_sees plan moment.locals first stage latched k local (λ u. is_offline (plan.kind u) && past to_next u) here c.grown
-          ∙ ap (λ x. record (s latched) { place = put (s latched).place k (place_seen x true); freed = put (s latched).freed k (freed_seen x p true) }) raw
-          ∙ ap (λ b. record (s latched) { place = put (s latched).place k In; freed = put (s latched).freed k b }) (either p)
-          ∙ ap (λ f. record (s latched) { place = f; freed = put (s latched).freed k true }) (put_back (s latched).place k In (sym inside));
+          ∙ settles_sees plan moment.locals first stage latched k local
+          (λ u. is_offline (plan.kind u) && past to_next u) here c.grown
+          ∙ ap
+          (λ x. record
+          (s latched) {
+            place = put (s latched).place k (place_seen x true);
+            freed = put (s latched).freed k
+                (freed_seen x p true);
+          }) raw
+          ∙ ap (λ b. record (s latched) { place = put (s latched).place k In; freed = put (s latched).freed k b })
+          (either p)
+          ∙ ap (λ f. record (s latched) { place = f; freed = put (s latched).freed k true })
+          (put_back (s latched).place k In (sym inside));
       says =
-          ap (λ n. record (families moment.words) { ctrl = put (families moment.words).ctrl k (if n == 0 then 2 else n) }) found
+          ap (λ n. record (families moment.words)
+          { ctrl = put (families moment.words).ctrl k (if n == 0 then 2 else n) }) found
           ∙ ap (λ (w : Families). record w { ctrl = put w.ctrl k 2 }) rule.says
           ∙ ap (λ n. record (words_of plan (s nobody)) { ctrl = n })
-          (coded (λ u b. ctrl_code ((s nobody).place u) b ((s nobody).group (plan.group u))) (s nobody).freed k true 2 code);
+          (coded (λ u b. ctrl_code ((s nobody).place u) b ((s nobody).group (plan.group u)))
+          (s nobody).freed k true 2 code);
       gathered = rule.gathered;
       later = later_freed 0 (s nobody) k;
     })
-    (subst (λ kind. Knows kind plan 0 new (next nobody)) (sym sound.thread_0_is_online) (releases_row plan k polls to_next (next nobody) refl dropped))
+    (subst (λ kind. Knows kind plan 0 new (next nobody)) (sym sound.thread_0_is_online)
+    (releases_row plan k polls to_next (next nobody) refl dropped))
     (own_round plan 0 h (s moment.latched) (next moment.latched) (what.Free k) own (refl, frees) (refl, frees))
 
 -- It has halted.
@@ -404,12 +446,21 @@ pass_kept plan moment h first stage k polls sound padded rule own here offline d
     (λ other. refl)
     (λ latched.
     ap (λ w. seen plan (put_view v 0 w) stage latched) (releases_view plan first k polls to_next)
-    ∙ settles_sees plan moment.locals first stage latched k local (λ u. is_offline (plan.kind u) && past to_next u) here c.grown
-    ∙ ap (λ x. record (s latched) { place = put (s latched).place k (place_seen x true); freed = put (s latched).freed k (freed_seen x p true) }) raw
-    ∙ ap (λ f. record (s latched) { place = f; freed = put (s latched).freed k false }) (put_back (s latched).place k Halted (sym halted))
+    ∙ settles_sees plan moment.locals first stage latched k local
+    (λ u. is_offline (plan.kind u) && past to_next u) here c.grown
+    ∙ ap
+    (λ x. record
+    (s latched) {
+      place = put (s latched).place k (place_seen x true);
+      freed = put (s latched).freed k
+          (freed_seen x p true);
+    }) raw
+    ∙ ap (λ f. record (s latched) { place = f; freed = put (s latched).freed k false })
+    (put_back (s latched).place k Halted (sym halted))
     ∙ ap (λ f. record (s latched) { freed = f }) (put_back (s latched).freed k false (sym freed)))
     (cas_keeps moment.words (word.Ctrl k) 0 2 (ap (λ n. n == 0) found))
-    (subst (λ kind. Knows kind plan 0 new (s nobody)) (sym sound.thread_0_is_online) (releases_row plan k polls to_next (s nobody) refl dropped))
+    (subst (λ kind. Knows kind plan 0 new (s nobody)) (sym sound.thread_0_is_online)
+    (releases_row plan k polls to_next (s nobody) refl dropped))
     (inner_round plan 0 h _ own (is_inside plan moment.locals first stage moment.latched 0 local here refl))
 
 withdraws_by :
@@ -425,7 +476,9 @@ unfolding views
 withdraws_by plan moment h first stage k polls sound padded rule own here offline dropped =
     let s = state plan first moment.locals stage in
     let l = moment.locals k in
-    let c = settling plan (families moment.words) moment.locals first stage k (at_phase phase.Withdrawing k polls 5) sound padded rule here refl
+    let c =
+    settling plan (families moment.words) moment.locals first stage k
+    (at_phase phase.Withdrawing k polls 5) sound padded rule here refl
     (and_both (is_offline (plan.kind k)) true (ap is_offline offline) refl) offline dropped in
     elim (out_or_come l.phase k l.mine s ((views plan first moment.locals).settles 0 k)
     (subst (λ kind. Knows kind plan k l s) offline (rule.knows k))
@@ -443,17 +496,24 @@ releases_by :
     moment.locals 0 ≡ at_phase phase.Releasing k polls 5 →
     plan.kind k ≡ Offline →
     is_dropped stage ≡ true →
-    has_come ((state plan first moment.locals stage).place k) ≡ true → Kept plan (event_of h 0) moment (steps plan 0 h moment)
+    has_come ((state plan first moment.locals stage).place k) ≡ true →
+    Kept plan (event_of h 0) moment (steps plan 0 h moment)
 unfolding views
 releases_by plan moment h first stage k polls sound padded rule own here offline dropped come =
     let s = state plan first moment.locals stage in
     let v = views plan first moment.locals in
     let l = moment.locals k in
-    let c = settling plan (families moment.words) moment.locals first stage k (at_phase phase.Releasing k polls 5) sound padded rule here refl
+    let c =
+    settling plan (families moment.words) moment.locals first stage k
+    (at_phase phase.Releasing k polls 5) sound padded rule here refl
     (and_both (is_offline (plan.kind k)) true (ap is_offline offline) refl) offline dropped in
-    let freed : s.freed k ≡ false = unfreed (v.place k) (v.frees (plan.primary (plan.group k)) k) (v.settles 0 k) c.unfreed c.unsettled in
-    elim (in_or_halted l.phase k l.mine s (v.settles 0 k) (subst (λ kind. Knows kind plan k l s) offline (rule.knows k)) freed come) [
-      | inl inside ↦ release_kept plan moment h first stage k polls sound padded rule own here offline dropped freed inside
+    let freed : s.freed k ≡ false =
+    unfreed (v.place k) (v.frees (plan.primary (plan.group k)) k) (v.settles 0 k) c.unfreed c.unsettled in
+    elim
+    (in_or_halted l.phase k l.mine s (v.settles 0 k)
+    (subst (λ kind. Knows kind plan k l s) offline (rule.knows k)) freed come) [
+      | inl inside ↦
+          release_kept plan moment h first stage k polls sound padded rule own here offline dropped freed inside
       | inr halted ↦ pass_kept plan moment h first stage k polls sound padded rule own here offline dropped freed halted
     ]
 
@@ -461,7 +521,9 @@ withdrawing_kept : (h : How) → is_step h ≡ true → KeepsTheRule phase.Withd
 unfolding KeepsTheRule
 withdrawing_kept h own plan moment t sound padded rule phase_is =
     let l = moment.locals t in
-    let at_thread = stands_in phase.Withdrawing plan (families moment.words) moment.locals rule.first rule.stage t rule.by phase_is refl in
+    let at_thread =
+    stands_in phase.Withdrawing plan
+    (families moment.words) moment.locals rule.first rule.stage t rule.by phase_is refl in
     let row = at_thread.row in
     let zero = row.0.0 in
     let here : moment.locals 0 ≡ at_phase phase.Withdrawing l.at l.polls 5 =
@@ -473,7 +535,9 @@ releasing_kept : (h : How) → is_step h ≡ true → KeepsTheRule phase.Releasi
 unfolding KeepsTheRule
 releasing_kept h own plan moment t sound padded rule phase_is =
     let l = moment.locals t in
-    let at_thread = stands_in phase.Releasing plan (families moment.words) moment.locals rule.first rule.stage t rule.by phase_is refl in
+    let at_thread =
+    stands_in phase.Releasing plan
+    (families moment.words) moment.locals rule.first rule.stage t rule.by phase_is refl in
     let row = at_thread.row in
     let zero = row.0.0.0 in
     let here : moment.locals 0 ≡ at_phase phase.Releasing l.at l.polls 5 =

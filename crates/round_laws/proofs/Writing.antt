@@ -33,7 +33,8 @@ pub own_group :
     is_primary plan t ≡ true →
     (views plan first locals).write (plan.primary (plan.group t)) ≡ (view plan t first local).write
 own_group plan locals first t local here primary =
-    ap (views plan first locals).write (primary_is plan t primary) ∙ ap (λ (w : View). w.write) (view_is plan locals first t local here)
+    ap (views plan first locals).write (primary_is plan t primary)
+    ∙ ap (λ (w : View). w.write) (view_is plan locals first t local here)
 
 -- the view of a primary, by how far its group's write has come
 writes_view : Plan → ℕ → Bool → Local → GroupPlace → Bool → View
@@ -59,7 +60,8 @@ begins_kept plan moment t h first at polls mine sound padded rule own here onlin
     let inside = is_inside plan moment.locals first Going moment.latched t local here refl in
     let waits : (s nobody).group g ≡ Waiting =
     own_group plan moment.locals first t local here primary ∙ ap (λ b. if b then Waiting else Waiting) primary in
-    let rev : moment.words (word.Rev g) ≡ plan.rev0 g = ap (λ (w : Families). w.rev g) rule.says ∙ ap (revision_in plan g) waits in
+    let rev : moment.words (word.Rev g) ≡ plan.rev0 g =
+    ap (λ (w : Families). w.rev g) rule.says ∙ ap (revision_in plan g) waits in
     let res : moment.words (word.Res g) ≡ 0 = ap (λ (w : Families). w.res g) rule.says ∙ ap res_code waits in
     let begins : Begins plan t g (s moment.latched) (next moment.latched) =
     record {
@@ -74,7 +76,8 @@ begins_kept plan moment t h first at polls mine sound padded rule own here onlin
     } in
     step_kept plan moment t h (Store (word.Mode t) 2) local new (what.Begin g) first first Going Going next
     sound padded rule here refl refl (λ other. refl)
-    (group_change plan (families moment.words) (families (words_after moment.words (Store (word.Mode t) 2))) moment.locals first t 2 local new Writing
+    (group_change plan (families moment.words)
+    (families (words_after moment.words (Store (word.Mode t) 2))) moment.locals first t 2 local new Writing
     sound padded rule here online primary
     (ap (writes_view plan t first local Writing) primary)
     (λ i. record (families moment.words) {
@@ -83,18 +86,23 @@ begins_kept plan moment t h first at polls mine sound padded rule own here onlin
       res = sym (put_back (families moment.words).res g 0 (sym res)) i;
     })
     (sym (ap (λ k. mode_code k true ((s nobody).place t)) online ∙ ap (mode_code Online true) inside))
-    (λ u same. told_same ((s nobody).place u) ((s nobody).freed u) ∙ ap (ctrl_code ((s nobody).place u) ((s nobody).freed u)) (sym waits)))
+    (λ u same. told_same ((s nobody).place u) ((s nobody).freed u)
+    ∙ ap (ctrl_code ((s nobody).place u) ((s nobody).freed u)) (sym waits)))
     (subst (λ kind. Knows kind plan t new (next nobody)) (sym online) (primary, refl, offer))
     (own_round plan t h (s moment.latched) (next moment.latched) (what.Begin g) own (refl, begins) (refl, begins))
 
 written_first : (plan : Plan) (g : ℕ) → plan.refuse g ≡ true → write_of plan g ≡ plan.rev0 g
 written_first plan g e = ap (λ b. if b then plan.rev0 g else unwrap_or (plan.offer g) (plan.rev0 g)) e
 
-written_offer : (plan : Plan) (g : ℕ) (offer : Option ℕ) → plan.offer g ≡ offer → is_some offer ≡ true → plan.refuse g ≡ false → plan.offer g ≡ Some (write_of plan g)
+written_offer :
+    (plan : Plan) (g : ℕ) (offer : Option ℕ) → plan.offer g ≡ offer → is_some offer ≡ true → plan.refuse g ≡ false →
+    plan.offer g ≡ Some (write_of plan g)
 written_offer plan g (Some o) e some f =
     e
     ∙ ap (λ n. Some n)
-    (sym (ap (λ b. if b then plan.rev0 g else unwrap_or (plan.offer g) (plan.rev0 g)) f ∙ ap (λ x. unwrap_or x (plan.rev0 g)) e))
+    (sym
+    (ap (λ b. if b then plan.rev0 g else unwrap_or (plan.offer g) (plan.rev0 g)) f
+    ∙ ap (λ x. unwrap_or x (plan.rev0 g)) e))
 written_offer plan g None e some f = cc
 
 wrote_kept :
@@ -133,9 +141,12 @@ wrote_kept plan moment t h first at polls mine sound padded rule own here online
       taken = written_offer plan g (plan.offer g) refl offer;
       change = refl;
     } in
-    step_kept plan moment t h (Store (word.Rev g) (write_of plan g)) local new (what.Wrote g (write_of plan g)) first first Going Going next
+    step_kept plan moment t h (Store (word.Rev g) (write_of plan g)) local new
+    (what.Wrote g (write_of plan g)) first first Going Going next
     sound padded rule here refl refl (λ other. refl)
-    (group_change plan (families moment.words) (families (words_after moment.words (Store (word.Rev g) (write_of plan g)))) moment.locals first t 2 local new Written
+    (group_change plan (families moment.words)
+    (families
+    (words_after moment.words (Store (word.Rev g) (write_of plan g)))) moment.locals first t 2 local new Written
     sound padded rule here online primary
     (ap (writes_view plan t first local Written) primary)
     (λ i. record (families moment.words) {
@@ -144,9 +155,11 @@ wrote_kept plan moment t h first at polls mine sound padded rule own here online
       res = sym (put_back (families moment.words).res g 0 (sym res)) i;
     })
     mode
-    (λ u same. told_same' ((s nobody).place u) ((s nobody).freed u) ∙ ap (ctrl_code ((s nobody).place u) ((s nobody).freed u)) (sym writing)))
+    (λ u same. told_same' ((s nobody).place u) ((s nobody).freed u)
+    ∙ ap (ctrl_code ((s nobody).place u) ((s nobody).freed u)) (sym writing)))
     (subst (λ kind. Knows kind plan t new (next nobody)) (sym online) (primary, refl, offer))
-    (own_round plan t h (s moment.latched) (next moment.latched) (what.Wrote g (write_of plan g)) own (refl, writes) (refl, writes))
+    (own_round plan t h (s moment.latched) (next moment.latched) (what.Wrote g (write_of plan g)) own (refl, writes)
+    (refl, writes))
 
 -- the stage is known
 pub at_going :
@@ -158,7 +171,9 @@ beginning_kept : (h : How) → is_step h ≡ true → KeepsTheRule phase.Beginni
 unfolding KeepsTheRule
 beginning_kept h own plan moment t sound padded rule phase_is =
     let l = moment.locals t in
-    let at_thread = stands_in phase.Beginning plan (families moment.words) moment.locals rule.first rule.stage t rule.by phase_is refl in
+    let at_thread =
+    stands_in phase.Beginning plan
+    (families moment.words) moment.locals rule.first rule.stage t rule.by phase_is refl in
     let row = at_thread.row in
     begins_kept plan moment t h rule.first l.at l.polls l.mine sound padded
     (at_going plan (families moment.words) moment.locals rule.first rule.stage row.1 rule.by)
@@ -168,7 +183,8 @@ writing_kept : (h : How) → is_step h ≡ true → KeepsTheRule phase.Writing h
 unfolding KeepsTheRule
 writing_kept h own plan moment t sound padded rule phase_is =
     let l = moment.locals t in
-    let at_thread = stands_in phase.Writing plan (families moment.words) moment.locals rule.first rule.stage t rule.by phase_is refl in
+    let at_thread =
+    stands_in phase.Writing plan (families moment.words) moment.locals rule.first rule.stage t rule.by phase_is refl in
     let row = at_thread.row in
     wrote_kept plan moment t h rule.first l.at l.polls l.mine sound padded
     (at_going plan (families moment.words) moment.locals rule.first rule.stage row.1 rule.by)

@@ -40,7 +40,8 @@ unfolding views
 settled_kicked plan locals first u e =
     let l = locals 0 in
     let parts = and_true (is_offline (plan.kind u)) (settles_in l.phase l.at l.mine u) e in
-    and_both (is_offline (plan.kind u)) (kicks_in l.phase l.at u) parts.0 (settled_kicked_in l.phase l.at l.mine u parts.1)
+    and_both (is_offline (plan.kind u)) (kicks_in l.phase l.at u) parts.0
+    (settled_kicked_in l.phase l.at l.mine u parts.1)
 
 -- Where a thread is.
 
@@ -67,7 +68,9 @@ waits_small true group = release_small group
 waits_small false group = refl
 
 -- who has not halted, by its word
-unhalted : (freed : Bool) (group : GroupPlace) (x : Place) → (if (if freed then release_code group else 0) == 3 then Halted else x) ≡ x
+unhalted :
+    (freed : Bool) (group : GroupPlace) (x : Place) →
+    (if (if freed then release_code group else 0) == 3 then Halted else x) ≡ x
 unhalted freed group x = let e = waits_small freed group in rw e refl
 
 place_back :
@@ -175,11 +178,14 @@ fits_by plan words locals first stage u KindAbsent rule e =
     let s = seen plan (views plan first locals) stage nobody in
     let l = locals u in
     let nothing : l.phase ≡ phase.Nothing = subst (λ kind. Knows kind plan u l s) e (rule.knows u) in
-    ap (λ p. fits KindAbsent (place_seen (place_in p l.mine) ((views plan first locals).settles 0 u)) (s.kicked u)) nothing
+    ap (λ p. fits KindAbsent (place_seen (place_in p l.mine) ((views plan first locals).settles 0 u)) (s.kicked u))
+    nothing
 
 -- Who was kicked.
 
-kicked_back : (kind : Kind) (place : Place) (kicked : Bool) → (is_offline kind ≡ false → kicked ≡ false) → not (nmi_code kind kicked place == 0) ≡ kicked
+kicked_back :
+    (kind : Kind) (place : Place) (kicked : Bool) → (is_offline kind ≡ false → kicked ≡ false) →
+    not (nmi_code kind kicked place == 0) ≡ kicked
 kicked_back Online place kicked e = sym (e refl)
 kicked_back Offline place false e = refl
 kicked_back Offline Out true e = refl
@@ -192,7 +198,9 @@ kicked_back KindAbsent place kicked e = sym (e refl)
 
 -- Who was freed.
 
-told_freed : (freed : Bool) (group : GroupPlace) → (let c = if freed then release_code group else 0 in (c == 1) || (c == 2)) ≡ freed
+told_freed :
+    (freed : Bool) (group : GroupPlace) →
+    (let c = if freed then release_code group else 0 in (c == 1) || (c == 2)) ≡ freed
 told_freed true (Reported results.Updated) = refl
 told_freed true group = refl
 told_freed false group = refl
@@ -256,7 +264,8 @@ awaits_by :
     RuleBy plan words locals first stage →
     plan.kind u ≡ kind →
     u ≢ 0 →
-    (is_online kind && not ((views plan first locals).arrived u)) ≡ (is_online kind && not (past_arriving (locals u).phase))
+    (is_online kind && not ((views plan first locals).arrived u))
+    ≡ (is_online kind && not (past_arriving (locals u).phase))
 awaits_by plan words locals first stage u Online rule e other =
     let s = seen plan (views plan first locals) stage nobody in
     let l = locals u in
@@ -292,7 +301,8 @@ told_by_count true n = grind (arith, nat_tests)
 told_by_count false n = grind (arith, nat_tests)
 
 arrived_by :
-    (plan : Plan) (words : Families) (locals : ℕ → Local) (first zero_arrived : Bool) (stage : Stage) (u : ℕ) (kind : Kind) →
+    (plan : Plan) (words : Families) (locals : ℕ → Local) (first zero_arrived : Bool) (stage : Stage) (u : ℕ)
+    (kind : Kind) →
     Sound plan →
     RuleBy plan words locals first stage →
     plan.kind u ≡ kind →
@@ -302,7 +312,8 @@ unfolding views
 arrived_by plan words locals first z stage u Online sound rule e same =
     elim (same_or_not u 0) [
       | inl zero ↦
-          ap (λ b. arrived_of Online b z (locals u)) (same_numbers u 0 zero) ∙ same ∙ ap (views plan first locals).arrived (sym zero)
+          ap (λ b. arrived_of Online b z (locals u)) (same_numbers u 0 zero) ∙ same
+          ∙ ap (views plan first locals).arrived (sym zero)
       | inr other ↦
           let s = seen plan (views plan first locals) stage nobody in
           let l = locals u in
@@ -347,7 +358,8 @@ decides_by p = refl
 
 decider_back :
     (plan : Plan) (locals : ℕ → Local) (first : Bool) (stage : Stage) (u : ℕ) →
-    ((decide_of stage == 0) && is_deciding (locals u).phase) ≡ (is_gathering stage && (views plan first locals).deciding u)
+    ((decide_of stage == 0) && is_deciding (locals u).phase)
+    ≡ (is_gathering stage && (views plan first locals).deciding u)
 unfolding views
 decider_back plan locals first stage u =
     ap (λ b. b && is_deciding (locals u).phase) (undecided stage)
@@ -374,7 +386,8 @@ reported_back results.Offline mode local = refl
 -- a primary has left, and its group reported or waits
 left_back :
     (drops : Bool) (x : ThreadResult) (local : Local) →
-    (let w = if drops then Waiting else Reported x in group_of (res_code w) (mode_code Online (has_begun w) (Left x)) local) ≡ (if drops then Waiting else Reported x)
+    (let w = if drops then Waiting else Reported x in group_of (res_code w)
+    (mode_code Online (has_begun w) (Left x)) local) ≡ (if drops then Waiting else Reported x)
 left_back true results.Updated local = refl
 left_back true results.Okay local = refl
 left_back true results.Current local = refl
@@ -385,7 +398,8 @@ left_back false x local = reported_back x (mode_code Online (has_begun (Reported
 
 leaving_back :
     (drops : Bool) (x : ThreadResult) (local : Local) →
-    (let w = if drops then Waiting else Reported x in group_of (res_code w) (mode_code Online (has_begun w) In) local) ≡ (if drops then Waiting else Reported x)
+    (let w = if drops then Waiting else Reported x in group_of (res_code w) (mode_code Online (has_begun w) In) local)
+    ≡ (if drops then Waiting else Reported x)
 leaving_back true x local = refl
 leaving_back false x local = reported_back x (mode_code Online (has_begun (Reported x)) In) local
 
@@ -400,13 +414,16 @@ reporting_back false at polls mine = refl
 
 group_back :
     (p : Phase) (at polls mine : ℕ) →
-    group_of (res_code (write_in p mine)) (mode_code Online (has_begun (write_in p mine)) (place_seen (place_in p mine) false)) (at_phase p at polls mine)
+    group_of (res_code (write_in p mine))
+    (mode_code Online (has_begun (write_in p mine)) (place_seen (place_in p mine) false)) (at_phase p at polls mine)
     ≡ write_in p mine
 unfolding is_writing past_writing
 group_back phase.Reporting at polls mine = reporting_back _ at polls mine
 group_back phase.Freeing at polls mine =
-    reported_back (result_of mine) (mode_code Online (has_begun (Reported (result_of mine))) In) (at_phase phase.Freeing at polls mine)
-group_back phase.Leaving at polls mine = leaving_back (is_timeout mine) (result_of mine) (at_phase phase.Leaving at polls mine)
+    reported_back (result_of mine) (mode_code Online (has_begun (Reported (result_of mine))) In)
+    (at_phase phase.Freeing at polls mine)
+group_back phase.Leaving at polls mine =
+    leaving_back (is_timeout mine) (result_of mine) (at_phase phase.Leaving at polls mine)
 group_back phase.Left at polls mine = left_back (is_timeout mine) (result_of mine) (at_phase phase.Left at polls mine)
 group_back p at polls mine = refl
 
@@ -420,7 +437,8 @@ group_by w kind writes place l own online begun there =
     ap (λ k. group_of (res_code w) (mode_code k writes place) l) online
     ∙ ap (λ b. group_of (res_code w) (mode_code Online b place) l) begun
     ∙ ap (λ p. group_of (res_code w) (mode_code Online (has_begun w) p) l) there
-    ∙ ap (λ x. group_of (res_code x) (mode_code Online (has_begun x) (place_seen (place_in l.phase l.mine) false)) l) own
+    ∙ ap
+    (λ x. group_of (res_code x) (mode_code Online (has_begun x) (place_seen (place_in l.phase l.mine) false)) l) own
     ∙ group_back l.phase l.at l.polls l.mine
     ∙ sym own
 
@@ -435,7 +453,8 @@ led_by :
     Sound plan →
     g < plan.groups →
     plan.kind (plan.primary g) ≡ kind →
-    ((plan.kind (plan.primary g) ≡ Online) × (plan.group (plan.primary g) ≡ g)) ⊎ (plan.kind (plan.primary g) ≡ KindAbsent)
+    ((plan.kind (plan.primary g) ≡ Online) × (plan.group (plan.primary g) ≡ g)) ⊎
+    (plan.kind (plan.primary g) ≡ KindAbsent)
 led_by plan g Online sound low e = inl (e, sound.primary_is_one_of_its_group g low)
 led_by plan g Offline sound low e =
     let p = plan.primary g in
@@ -449,7 +468,8 @@ pub led :
     (plan : Plan) (g : ℕ) →
     Sound plan →
     Padded plan →
-    ((plan.kind (plan.primary g) ≡ Online) × (plan.group (plan.primary g) ≡ g)) ⊎ (plan.kind (plan.primary g) ≡ KindAbsent)
+    ((plan.kind (plan.primary g) ≡ Online) × (plan.group (plan.primary g) ≡ g)) ⊎
+    (plan.kind (plan.primary g) ≡ KindAbsent)
 led plan g sound padded =
     elim (cases_lt g plan.groups) [
       | inl low ↦ led_by plan g (plan.kind (plan.primary g)) sound low refl
@@ -465,7 +485,8 @@ unfolding views
 lead_write plan locals first g group =
     let p = plan.primary g in
     let l = locals p in
-    ap (λ b. if b then write_in l.phase l.mine else Waiting) (same_numbers p (plan.primary (plan.group p)) (ap plan.primary (sym group)))
+    ap (λ b. if b then write_in l.phase l.mine else Waiting)
+    (same_numbers p (plan.primary (plan.group p)) (ap plan.primary (sym group)))
 
 pub absent_waits :
     (plan : Plan) (words : Families) (locals : ℕ → Local) (first : Bool) (stage : Stage) (p : ℕ) →
@@ -492,7 +513,8 @@ group_shown plan words locals first stage g sound padded rule =
     let l = locals p in
     elim (led plan g sound padded) [
       | inl lead ↦
-          let primary : is_primary plan p ≡ true = same_numbers p (plan.primary (plan.group p)) (ap plan.primary (sym lead.1)) in
+          let primary : is_primary plan p ≡ true =
+          same_numbers p (plan.primary (plan.group p)) (ap plan.primary (sym lead.1)) in
           let begun : writes_now plan p s.group ≡ has_begun (s.group g) =
           ap (λ b. b && has_begun (s.group (plan.group p))) primary ∙ ap (λ h. has_begun (s.group h)) lead.1 in
           group_by (s.group g) (plan.kind p) (writes_now plan p s.group) (s.place p) l
@@ -512,7 +534,8 @@ pub shown_is_seen :
     (plan : Plan) (words : Families) (locals : ℕ → Local) (first : Bool) (stage : Stage) (latched : ℕ → Bool) →
     Sound plan →
     Padded plan →
-    RuleBy plan words locals first stage → shown plan words locals latched ≡ seen plan (views plan first locals) stage latched
+    RuleBy plan words locals first stage →
+    shown plan words locals latched ≡ seen plan (views plan first locals) stage latched
 unfolding words_of
 shown_is_seen plan words locals first stage latched sound padded rule =
     let v = views plan first locals in
@@ -527,7 +550,8 @@ shown_is_seen plan words locals first stage latched sound padded rule =
     place_back (plan.kind u) (s.place u) (writes_now plan u s.group) (s.freed u) (s.kicked u) (s.group (plan.group u))
     (fits_by plan words locals first stage u (plan.kind u) rule refl))
     (λ u. kicked_back (plan.kind u) (s.place u) (s.kicked u) (unkicked plan locals first u))
-    (λ u. arrived_by plan words locals first (w.arrive == awaited plan locals) stage u (plan.kind u) sound rule refl zero)
+    (λ u. arrived_by plan words locals first (w.arrive == awaited plan locals) stage u
+    (plan.kind u) sound rule refl zero)
     (λ u. freed_back (v.place u) (v.frees (plan.primary (plan.group u)) u) (v.settles 0 u) (s.group (plan.group u)))
     (λ u. refl)
     (stage_back stage)

@@ -71,7 +71,8 @@ count_less p q a (suc n) t low high passes fails same =
 -- a test that none passes counts none
 pub count_zero : (p : ℕ → Bool) (a n : ℕ) → ((u : ℕ) → p u ≡ false) → count p a n ≡ 0
 count_zero p a zero fails = refl
-count_zero p a (suc n) fails = let here = fails a in let rest = count_zero p (a + 1) n fails in rw (count_step p a n, here, rest) refl
+count_zero p a (suc n) fails =
+    let here = fails a in let rest = count_zero p (a + 1) n fails in rw (count_step p a n, here, rest) refl
 
 -- none is counted, so none passes
 pub count_none : (p : ℕ → Bool) (a n t : ℕ) → count p a n ≡ 0 → a ≤ t → t < a + n → p t ≡ false

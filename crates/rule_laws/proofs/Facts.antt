@@ -82,7 +82,8 @@ unkicked_is_out plan words locals first stage k rule offline e =
 
 -- What an Online thread knows of the decision, by what others see of it.
 
-ends_dropped : (b : Bool) (plan : Plan) (t mine : ℕ) (s : State) → b ≡ true → Ends b plan t mine s → is_dropped s.stage ≡ true
+ends_dropped :
+    (b : Bool) (plan : Plan) (t mine : ℕ) (s : State) → b ≡ true → Ends b plan t mine s → is_dropped s.stage ≡ true
 ends_dropped true plan t mine s e knows = knows
 ends_dropped false plan t mine s e knows = cc
 
@@ -134,8 +135,10 @@ begun_row phase.Writing plan t at mine s knows other = knows.1
 begun_row phase.Checking plan t at mine s knows other = knows.1
 begun_row phase.Reporting plan t at mine s knows other = knows.1
 begun_row phase.Freeing plan t at mine s knows other = knows.0.1
-begun_row phase.Leaving plan t at mine s knows other = ends_going (is_timeout mine) plan t mine s (result_of mine) knows other
-begun_row phase.Left plan t at mine s knows other = ends_going (is_timeout mine) plan t mine s (result_of mine) knows other
+begun_row phase.Leaving plan t at mine s knows other =
+    ends_going (is_timeout mine) plan t mine s (result_of mine) knows other
+begun_row phase.Left plan t at mine s knows other =
+    ends_going (is_timeout mine) plan t mine s (result_of mine) knows other
 begun_row p plan t at mine s knows other = absurd (other refl)
 
 pub begun_going :
@@ -165,17 +168,21 @@ pub same_result : (x y : ThreadResult) → Reported x ≡ Reported y → x ≡ y
 same_result x y e = ap told_result e
 
 -- a primary's result is its group's
-lead_result : (plan : Plan) (t mine : ℕ) → is_primary plan t ≡ true → mine ≡ number_of (result_for plan t) → result_of mine ≡ report_of plan (plan.group t)
+lead_result :
+    (plan : Plan) (t mine : ℕ) → is_primary plan t ≡ true → mine ≡ number_of (result_for plan t) →
+    result_of mine ≡ report_of plan (plan.group t)
 unfolding result_for
 lead_result plan t mine primary e =
     ap result_of e
-    ∙ number_back (if is_primary plan t then report_of plan (plan.group t) else okay_for (report_of plan (plan.group t)))
+    ∙ number_back
+    (if is_primary plan t then report_of plan (plan.group t) else okay_for (report_of plan (plan.group t)))
     ∙ ap (λ b. if b then report_of plan (plan.group t) else okay_for (report_of plan (plan.group t))) primary
 
 ends_reported :
     (b : Bool) (plan : Plan) (t mine : ℕ) (s : State) (x : ThreadResult) →
     is_primary plan t ≡ true →
-    Ends b plan t mine s → (if b then Waiting else Reported (result_of mine)) ≡ Reported x → (s.stage ≡ Going) × (x ≡ report_of plan (plan.group t))
+    Ends b plan t mine s → (if b then Waiting else Reported (result_of mine)) ≡ Reported x →
+    (s.stage ≡ Going) × (x ≡ report_of plan (plan.group t))
 ends_reported true plan t mine s x primary knows e = cc
 ends_reported false plan t mine s x primary knows e =
     (knows.0, sym (same_result (result_of mine) x e) ∙ lead_result plan t mine primary knows.1)
@@ -187,23 +194,31 @@ reporting_not false x e = cc
 reported_row :
     (p : Phase) (plan : Plan) (t at mine : ℕ) (s : State) (x : ThreadResult) →
     is_primary plan t ≡ true →
-    OnlineKnows p plan t at mine s → write_in p mine ≡ Reported x → (s.stage ≡ Going) × (x ≡ report_of plan (plan.group t))
+    OnlineKnows p plan t at mine s → write_in p mine ≡ Reported x →
+    (s.stage ≡ Going) × (x ≡ report_of plan (plan.group t))
 reported_row phase.Reporting plan t at mine s x primary knows e = absurd (reporting_not _ x e)
-reported_row phase.Freeing plan t at mine s x primary knows e =
-    (knows.0.1, sym (same_result (result_of mine) x e) ∙ ap result_of knows.0.2 ∙ number_back (report_of plan (plan.group t)))
-reported_row phase.Leaving plan t at mine s x primary knows e = ends_reported (is_timeout mine) plan t mine s x primary knows e
-reported_row phase.Left plan t at mine s x primary knows e = ends_reported (is_timeout mine) plan t mine s x primary knows e
+reported_row phase.Freeing plan t at mine s x primary knows e = (
+  knows.0.1,
+  sym (same_result (result_of mine) x e) ∙ ap result_of knows.0.2
+      ∙ number_back (report_of plan (plan.group t)),
+)
+reported_row phase.Leaving plan t at mine s x primary knows e =
+    ends_reported (is_timeout mine) plan t mine s x primary knows e
+reported_row phase.Left plan t at mine s x primary knows e =
+    ends_reported (is_timeout mine) plan t mine s x primary knows e
 reported_row p plan t at mine s x primary knows e = cc
 
 pub lead_primary : (plan : Plan) (g : ℕ) → plan.group (plan.primary g) ≡ g → is_primary plan (plan.primary g) ≡ true
-lead_primary plan g e = same_numbers (plan.primary g) (plan.primary (plan.group (plan.primary g))) (ap plan.primary (sym e))
+lead_primary plan g e =
+    same_numbers (plan.primary g) (plan.primary (plan.group (plan.primary g))) (ap plan.primary (sym e))
 
 -- what a group reported is what its offer and its refusal say
 pub reported_is :
     (plan : Plan) (words : Families) (locals : ℕ → Local) (first : Bool) (stage : Stage) (g : ℕ) (x : ThreadResult) →
     Sound plan →
     Padded plan →
-    RuleBy plan words locals first stage → (state plan first locals stage).group g ≡ Reported x → (stage ≡ Going) × (x ≡ report_of plan g)
+    RuleBy plan words locals first stage → (state plan first locals stage).group g ≡ Reported x →
+    (stage ≡ Going) × (x ≡ report_of plan g)
 reported_is plan words locals first stage g x sound padded rule e =
     let p = plan.primary g in
     let l = locals p in
@@ -214,7 +229,8 @@ reported_is plan words locals first stage g x sound padded rule e =
           (subst (λ kind. Knows kind plan p l s) lead.0 (rule.knows p))
           (sym (lead_write plan locals first g lead.1) ∙ e) in
           (told.0, told.1 ∙ ap (report_of plan) lead.1)
-      | inr absent ↦ let same : Waiting ≡ Reported x = sym (absent_waits plan words locals first stage p rule absent) ∙ e in cc
+      | inr absent ↦
+          let same : Waiting ≡ Reported x = sym (absent_waits plan words locals first stage p rule absent) ∙ e in cc
     ]
 
 -- Who was freed by its primary.
@@ -222,14 +238,16 @@ reported_is plan words locals first stage g x sound padded rule e =
 ends_frees :
     (b : Bool) (plan : Plan) (t mine : ℕ) (s : State) →
     is_primary plan t ≡ true →
-    Ends b plan t mine s → not b ≡ true → (if b then Waiting else Reported (result_of mine)) ≡ Reported (report_of plan (plan.group t))
+    Ends b plan t mine s → not b ≡ true →
+    (if b then Waiting else Reported (result_of mine)) ≡ Reported (report_of plan (plan.group t))
 ends_frees true plan t mine s primary knows e = cc
 ends_frees false plan t mine s primary knows e = ap (λ x. Reported x) (lead_result plan t mine primary knows.1)
 
 frees_row :
     (p : Phase) (plan : Plan) (t at mine u : ℕ) (s : State) →
     is_primary plan t ≡ true →
-    OnlineKnows p plan t at mine s → frees_in p at mine u ≡ true → write_in p mine ≡ Reported (report_of plan (plan.group t))
+    OnlineKnows p plan t at mine s → frees_in p at mine u ≡ true →
+    write_in p mine ≡ Reported (report_of plan (plan.group t))
 frees_row phase.Freeing plan t at mine u s primary knows e =
     ap (λ x. Reported x) (ap result_of knows.0.2 ∙ number_back (report_of plan (plan.group t)))
 frees_row phase.Leaving plan t at mine u s primary knows e = ends_frees (is_timeout mine) plan t mine s primary knows e
@@ -256,7 +274,8 @@ frees_reported plan words locals first stage u sound padded rule e =
     elim (led plan g sound padded) [
       | inl lead ↦
           lead_write plan locals first g group
-          ∙ frees_row l.phase plan p l.at l.mine u s parts.0 (subst (λ kind. Knows kind plan p l s) lead.0 (rule.knows p)) more.1
+          ∙ frees_row l.phase plan p l.at l.mine u s parts.0
+          (subst (λ kind. Knows kind plan p l s) lead.0 (rule.knows p)) more.1
           ∙ ap (λ h. Reported (report_of plan h)) group
       | inr absent ↦
           let nothing : l.phase ≡ phase.Nothing = subst (λ kind. Knows kind plan p l s) absent (rule.knows p) in

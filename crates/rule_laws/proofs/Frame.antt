@@ -120,11 +120,15 @@ not_itself k = grind (arith, nat_tests)
 pub before_next : (u k l : ℕ) → u ≢ k → (u < l → k + 1 ≤ u → ⊥) → k < l → nat_lt u l ≡ nat_lt u k
 before_next u k l other none low =
     elim (cases_lt u k) [
-      | inl before ↦ let a : nat_lt u l ≡ true = grind (arith, nat_tests) in let b : nat_lt u k ≡ true = grind (arith, nat_tests) in a ∙ sym b
+      | inl before ↦
+          let a : nat_lt u l ≡ true =
+          grind (arith, nat_tests) in let b : nat_lt u k ≡ true = grind (arith, nat_tests) in a ∙ sym b
       | inr after ↦
           elim (cases_lt u l) [
             | inl within ↦ absurd (none within (omega arith))
-            | inr past ↦ let a : nat_lt u l ≡ false = grind (arith, nat_tests) in let b : nat_lt u k ≡ false = grind (arith, nat_tests) in a ∙ sym b
+            | inr past ↦
+                let a : nat_lt u l ≡ false =
+                grind (arith, nat_tests) in let b : nat_lt u k ≡ false = grind (arith, nat_tests) in a ∙ sym b
           ]
     ]
 
@@ -154,7 +158,8 @@ pub some_offline : (plan : Plan) → Padded plan → (k : ℕ) → plan.kind k �
 unfolding offline_count
 some_offline plan padded k offline =
     let within = offline_in_range plan padded k offline in
-    count_some (λ u. is_offline (plan.kind u)) 0 (plan.threads - 0) k (omega arith) (omega arith) (ap is_offline offline)
+    count_some (λ u. is_offline (plan.kind u)) 0 (plan.threads - 0) k (omega arith) (omega arith)
+    (ap is_offline offline)
 
 -- What a sibling is.
 pub record Sibling (plan : Plan) (t u : ℕ) : Type 0 where
@@ -173,7 +178,9 @@ sibling plan t u e =
     let parts = three (plan.group u == plan.group t) (u == t) (is_absent (plan.kind u)) e in
     record { same_group = equal_numbers _ _ parts.0; another = other_numbers _ _ parts.1; present = parts.2 }
 
-pub is_sibling_of : (plan : Plan) (t u : ℕ) → plan.group u ≡ plan.group t → u ≢ t → is_absent (plan.kind u) ≡ false → is_sibling plan t u ≡ true
+pub is_sibling_of :
+    (plan : Plan) (t u : ℕ) → plan.group u ≡ plan.group t → u ≢ t → is_absent (plan.kind u) ≡ false →
+    is_sibling plan t u ≡ true
 is_sibling_of plan t u group other present =
     let a = same_numbers _ _ group in let b = different _ _ other in rw (a, b, present) refl
 
@@ -205,17 +212,20 @@ of_primary plan t u sound padded leads present other =
     is_sibling_of plan t u group other present
 
 -- of the sibling that is freed
-pub leads_sibling : (plan : Plan) (t s : ℕ) → is_primary plan t ≡ true → is_sibling plan t s ≡ true → plan.primary (plan.group s) ≡ t
+pub leads_sibling :
+    (plan : Plan) (t s : ℕ) → is_primary plan t ≡ true → is_sibling plan t s ≡ true → plan.primary (plan.group s) ≡ t
 leads_sibling plan t s primary e = ap plan.primary (sibling plan t s e).same_group ∙ primary_is plan t primary
 
-pub no_primary_of : (plan : Plan) (t s : ℕ) → is_primary plan t ≡ true → is_sibling plan t s ≡ true → is_primary plan s ≡ false
+pub no_primary_of :
+    (plan : Plan) (t s : ℕ) → is_primary plan t ≡ true → is_sibling plan t s ≡ true → is_primary plan s ≡ false
 no_primary_of plan t s primary e =
     different s (plan.primary (plan.group s)) (λ f. (sibling plan t s e).another (f ∙ leads_sibling plan t s primary e))
 
 -- the primary of a thread that takes part is Online
 primary_by :
     (plan : Plan) (t : ℕ) (kind : Kind) →
-    Sound plan → Padded plan → plan.kind t ≡ kind → is_absent kind ≡ false → plan.kind (plan.primary (plan.group t)) ≡ Online
+    Sound plan → Padded plan → plan.kind t ≡ kind → is_absent kind ≡ false →
+    plan.kind (plan.primary (plan.group t)) ≡ Online
 primary_by plan t kind sound padded e present =
     elim (cases_lt t plan.threads) [
       | inl low ↦ sound.present_primary t low (λ f. true≢false (sym (ap is_absent (sym e ∙ f)) ∙ present))
@@ -223,11 +233,13 @@ primary_by plan t kind sound padded e present =
     ]
 
 pub primary_online :
-    (plan : Plan) (t : ℕ) → Sound plan → Padded plan → is_absent (plan.kind t) ≡ false → plan.kind (plan.primary (plan.group t)) ≡ Online
+    (plan : Plan) (t : ℕ) → Sound plan → Padded plan → is_absent (plan.kind t) ≡ false →
+    plan.kind (plan.primary (plan.group t)) ≡ Online
 primary_online plan t sound padded present = primary_by plan t (plan.kind t) sound padded refl present
 
 -- an Offline thread is no primary
-pub offline_leads_not : (plan : Plan) (t : ℕ) → Sound plan → Padded plan → plan.kind t ≡ Offline → is_primary plan t ≡ false
+pub offline_leads_not :
+    (plan : Plan) (t : ℕ) → Sound plan → Padded plan → plan.kind t ≡ Offline → is_primary plan t ≡ false
 offline_leads_not plan t sound padded offline =
     not_so (is_primary plan t)
     (λ e.

@@ -161,7 +161,8 @@ online_still :
 online_still plan phase.Outside t u at mine s s' later other decides knows = knows
 online_still plan phase.Kicking t u at mine s s' later other decides knows = knows
 online_still plan phase.OfflineWait t u at mine s s' later other decides knows = knows
-online_still plan phase.Arriving t u at mine s s' later other decides knows = λ zero k e. later.arrived k (knows zero k e)
+online_still plan phase.Arriving t u at mine s s' later other decides knows =
+    λ zero k e. later.arrived k (knows zero k e)
 online_still plan phase.Deciding t u at mine s s' later other decides knows =
     goes_not s.stage t u s s' later other refl (λ e. decides e refl) knows
 online_still plan phase.Waiting t u at mine s s' later other decides knows = knows

@@ -37,7 +37,8 @@ begins p n (Some l) within e u =
     ])
 begins p n None within e u =
     stays_out (p u) true
-    (λ passes. let low = within u passes in absurd (true≢false (sym passes ∙ found_none p 0 (n - 0) e u (omega arith) (omega arith))))
+    (λ passes. let low = within u passes in absurd
+    (true≢false (sym passes ∙ found_none p 0 (n - 0) e u (omega arith) (omega arith))))
 
 -- one that was at k is past k too when it goes on
 pub goes_on :
@@ -53,7 +54,8 @@ goes_on p n k (Some l) here within e u =
     (and_both (p k) (nat_lt k l) here (grind (arith, nat_tests)))
     (λ v other.
     guarded (p v) (nat_lt v l) (nat_lt v k)
-    (λ passes. before_next v k l other (λ under over. true≢false (sym passes ∙ first.before v over under)) (omega arith)))
+    (λ passes. before_next v k l other (λ under over. true≢false (sym passes ∙ first.before v over under))
+    (omega arith)))
     u
 goes_on p n k None here within e u =
     put_all (λ v y. (p v && true) ≡ y) (λ v. p v && nat_lt v k) k true
@@ -64,7 +66,8 @@ goes_on p n k None here within e u =
     let low = within v passes in
     elim (cases_lt v k) [
       | inl before ↦ sym (grind (arith, nat_tests))
-      | inr after ↦ absurd (true≢false (sym passes ∙ found_none p (k + 1) (n - (k + 1)) e v (omega arith) (omega arith)))
+      | inr after ↦
+          absurd (true≢false (sym passes ∙ found_none p (k + 1) (n - (k + 1)) e v (omega arith) (omega arith)))
     ]))
     u
 
@@ -105,7 +108,9 @@ none_offline plan padded e u =
     by : (b : Bool) → is_offline (plan.kind u) ≡ b → b ≡ false
     by true f =
         let low = offline_within plan padded u f in
-        absurd (true≢false (sym f ∙ found_none (λ v. is_offline (plan.kind v)) 0 (plan.threads - 0) e u (omega arith) (omega arith)))
+        absurd
+        (true≢false
+        (sym f ∙ found_none (λ v. is_offline (plan.kind v)) 0 (plan.threads - 0) e u (omega arith) (omega arith)))
     by false f = refl
 
 -- Over the siblings of a thread.

@@ -17,7 +17,9 @@ use Rattle.rule_laws.proofs.Assemble.{shown_is_seen, waits_either}
 
 -- What is seen of each thread, by its kind.
 
-first_place : (kind : Kind) (z : Bool) → z ≡ false → place_seen (place_in (opening_phase kind) (opening_mine kind)) z ≡ opening_place kind
+first_place :
+    (kind : Kind) (z : Bool) → z ≡ false →
+    place_seen (place_in (opening_phase kind) (opening_mine kind)) z ≡ opening_place kind
 first_place Online z e = ap (place_seen Out) e
 first_place Offline z e = ap (place_seen Out) e
 first_place Absent z e = refl
@@ -32,7 +34,8 @@ first_frees Online at mine u = refl
 first_frees Offline at mine u = refl
 first_frees Absent at mine u = refl
 
-first_freed : (kind : Kind) (p z : Bool) → p ≡ false → freed_seen (place_in (opening_phase kind) (opening_mine kind)) p z ≡ false
+first_freed :
+    (kind : Kind) (p z : Bool) → p ≡ false → freed_seen (place_in (opening_phase kind) (opening_mine kind)) p z ≡ false
 first_freed Online p z e = e
 first_freed Offline p z e = e
 first_freed Absent p z e = e
@@ -47,7 +50,8 @@ first_decides Online = refl
 first_decides Offline = refl
 first_decides Absent = refl
 
-first_write : (kind : Kind) (mine : ℕ) (b : Bool) → (if b then write_in (opening_phase kind) mine else Waiting) ≡ Waiting
+first_write :
+    (kind : Kind) (mine : ℕ) (b : Bool) → (if b then write_in (opening_phase kind) mine else Waiting) ≡ Waiting
 first_write Online mine b = waits_either b
 first_write Offline mine b = waits_either b
 first_write Absent mine b = waits_either b
@@ -59,7 +63,8 @@ unfolding views opening
 opening_seen plan sound =
     let v = views plan false (opening plan) in
     let settles : (u : ℕ) → v.settles 0 u ≡ false =
-    λ u. and_false (is_offline (plan.kind u)) (settles_in (opening_phase (plan.kind 0)) 0 (opening_mine (plan.kind 0)) u)
+    λ u. and_false (is_offline (plan.kind u))
+    (settles_in (opening_phase (plan.kind 0)) 0 (opening_mine (plan.kind 0)) u)
     (first_settles (plan.kind 0) 0 (opening_mine (plan.kind 0)) u) in
     let writes : (g : ℕ) → v.write (plan.primary g) ≡ Waiting =
     λ g. let p = plan.primary g in first_write (plan.kind p) (opening_mine (plan.kind p)) (is_primary plan p) in
@@ -74,7 +79,8 @@ opening_seen plan sound =
     (λ u.
     let p = plan.primary (plan.group u) in
     first_freed (plan.kind u) (v.frees p u) (v.settles 0 u)
-    (and_false (is_primary plan p) (is_sibling plan p u && frees_in (opening_phase (plan.kind p)) 0 (opening_mine (plan.kind p)) u)
+    (and_false (is_primary plan p)
+    (is_sibling plan p u && frees_in (opening_phase (plan.kind p)) 0 (opening_mine (plan.kind p)) u)
     (and_false (is_sibling plan p u) (frees_in (opening_phase (plan.kind p)) 0 (opening_mine (plan.kind p)) u)
     (first_frees (plan.kind p) 0 (opening_mine (plan.kind p)) u))))
     (λ u. refl)
@@ -111,7 +117,9 @@ opening_says plan =
     count_same (λ u. is_online (plan.kind u)) (λ u. is_online (plan.kind u) && true) 0 (plan.threads - 0)
     (λ u. all_awaited (is_online (plan.kind u))) in
     let offline : 0 ≡ offline_arrived plan nobody =
-    sym (count_zero (λ u. is_offline (plan.kind u) && false) 0 (plan.threads - 0) (λ u. and_false (is_offline (plan.kind u)) false refl)) in
+    sym
+    (count_zero (λ u. is_offline (plan.kind u) && false) 0 (plan.threads - 0)
+    (λ u. and_false (is_offline (plan.kind u)) false refl)) in
     λ i. record {
       arrive = online i;
       off_in = offline i;
@@ -149,7 +157,9 @@ unfolding opening
 opening_rule plan sound =
     record {
       says = opening_says plan ∙ ap (words_of plan) (sym (opening_seen plan sound));
-      gathered = subst (λ s. Gathered plan s.arrived Gathering s.is_decider) (sym (opening_seen plan sound)) (opening_gathered plan sound);
+      gathered =
+          subst (λ s. Gathered plan s.arrived Gathering s.is_decider) (sym (opening_seen plan sound))
+          (opening_gathered plan sound);
       knows = λ t. first_knows (plan.kind t) plan t (seen plan (views plan false (opening plan)) Gathering nobody);
     }
 
@@ -158,5 +168,6 @@ opening_is_ruled plan sound padded = record { first = false; stage = Gathering; 
 
 pub opening_is_shown : OpeningIsShown
 opening_is_shown plan sound padded =
-    shown_is_seen plan (families (opening_words plan)) (opening plan) false Gathering nobody sound padded (opening_rule plan sound)
+    shown_is_seen plan (families (opening_words plan)) (opening plan) false Gathering nobody sound padded
+    (opening_rule plan sound)
     ∙ opening_seen plan sound

@@ -66,7 +66,8 @@ left_write false x e = cc
 
 -- a thread whose group writes has not left
 left_not_by :
-    (plan : Plan) (words : Families) (locals : ℕ → Local) (first : Bool) (stage : Stage) (u : ℕ) (drops primary : Bool) →
+    (plan : Plan) (words : Families) (locals : ℕ → Local) (first : Bool) (stage : Stage) (u : ℕ)
+    (drops primary : Bool) →
     Sound plan →
     Padded plan →
     RuleBy plan words locals first stage →
@@ -89,11 +90,14 @@ left_not_by plan words locals first stage u false false sound padded rule going 
     in_write_not_reported _ (report_of plan (plan.group u)) writes
     (freed_reported plan words locals first stage u sound padded rule (going_undropped stage going) (ends.2 leads))
 
-left_row : (p : Phase) (plan : Plan) (t at mine : ℕ) (s : State) → p ≡ phase.Left → OnlineKnows p plan t at mine s → Ends (is_timeout mine) plan t mine s
+left_row :
+    (p : Phase) (plan : Plan) (t at mine : ℕ) (s : State) → p ≡ phase.Left → OnlineKnows p plan t at mine s →
+    Ends (is_timeout mine) plan t mine s
 left_row p plan t at mine s e knows = subst (λ x. OnlineKnows x plan t at mine s) e knows
 
 left_freed : (p : Phase) (t mine : ℕ) (s : State) → p ≡ phase.Left → OfflineKnows p t mine s → s.freed t ≡ true
-left_freed p t mine s e knows = let row : OfflineKnows phase.Left t mine s = subst (λ x. OfflineKnows x t mine s) e knows in row.1
+left_freed p t mine s e knows =
+    let row : OfflineKnows phase.Left t mine s = subst (λ x. OfflineKnows x t mine s) e knows in row.1
 
 held_by :
     (plan : Plan) (words : Families) (locals : ℕ → Local) (first : Bool) (stage : Stage) (u : ℕ) (kind : Kind) →
@@ -113,7 +117,8 @@ held_by plan words locals first stage u Online sound padded rule going writes e 
     online_held l.phase plan u l.at l.mine s (not (u == 0) || first) ((views plan first locals).settles 0 u) row
     (rule.gathered.go_after_all going u e)
     (λ left.
-    left_not_by plan words locals first stage u (is_timeout l.mine) (is_primary plan u) sound padded rule going writes left refl
+    left_not_by plan words locals first stage u (is_timeout l.mine)
+    (is_primary plan u) sound padded rule going writes left refl
     (left_row l.phase plan u l.at l.mine s left row))
 held_by plan words locals first stage u Offline sound padded rule going writes e part =
     let s = state plan first locals stage in
@@ -148,7 +153,8 @@ nothing_yet plan words locals first stage sound padded rule calm g =
     elim (waits_or_not (s.group g)) [
       | inl waits ↦ (waits, ap (revision_in plan g) waits)
       | inr begun ↦
-          absurd (true≢false (sym (ap is_going (begun_going plan words locals first stage g sound padded rule begun)) ∙ calm))
+          absurd
+          (true≢false (sym (ap is_going (begun_going plan words locals first stage g sound padded rule begun)) ∙ calm))
     ]
 
 -- What a revision is.
@@ -157,15 +163,20 @@ write_is : (plan : Plan) (g : ℕ) (offer : Option ℕ) (refuses : Bool) → pla
     (write_of plan g ≡ plan.rev0 g) ⊎ (plan.offer g ≡ Some (write_of plan g))
 write_is plan g offer true e f = inl (ap (λ b. if b then plan.rev0 g else unwrap_or (plan.offer g) (plan.rev0 g)) f)
 write_is plan g None false e f =
-    inl (ap (λ b. if b then plan.rev0 g else unwrap_or (plan.offer g) (plan.rev0 g)) f ∙ ap (λ o. unwrap_or o (plan.rev0 g)) e)
+    inl
+    (ap (λ b. if b then plan.rev0 g else unwrap_or (plan.offer g) (plan.rev0 g)) f
+    ∙ ap (λ o. unwrap_or o (plan.rev0 g)) e)
 write_is plan g (Some o) false e f =
     inr
     (e
     ∙ ap (λ n. Some n)
-    (sym (ap (λ b. if b then plan.rev0 g else unwrap_or (plan.offer g) (plan.rev0 g)) f ∙ ap (λ x. unwrap_or x (plan.rev0 g)) e)))
+    (sym
+    (ap (λ b. if b then plan.rev0 g else unwrap_or (plan.offer g) (plan.rev0 g)) f
+    ∙ ap (λ x. unwrap_or x (plan.rev0 g)) e)))
 
 first_or_offer :
-    (plan : Plan) (g : ℕ) (w : GroupPlace) → (revision_in plan g w ≡ plan.rev0 g) ⊎ (plan.offer g ≡ Some (revision_in plan g w))
+    (plan : Plan) (g : ℕ) (w : GroupPlace) →
+    (revision_in plan g w ≡ plan.rev0 g) ⊎ (plan.offer g ≡ Some (revision_in plan g w))
 first_or_offer plan g Waiting = inl refl
 first_or_offer plan g Writing = inl refl
 first_or_offer plan g Written = write_is plan g (plan.offer g) (plan.refuse g) refl refl
@@ -174,19 +185,24 @@ first_or_offer plan g (Reported x) = write_is plan g (plan.offer g) (plan.refuse
 -- the group has its offer where the report is Updated
 updated_offer :
     (plan : Plan) (g : ℕ) (offer : Option ℕ) (refuses : Bool) →
-    plan.offer g ≡ offer → plan.refuse g ≡ refuses → report_by offer refuses ≡ results.Updated → plan.offer g ≡ Some (write_of plan g)
+    plan.offer g ≡ offer → plan.refuse g ≡ refuses → report_by offer refuses ≡ results.Updated →
+    plan.offer g ≡ Some (write_of plan g)
 updated_offer plan g None refuses e f u = cc
 updated_offer plan g (Some o) true e f u = cc
 updated_offer plan g (Some o) false e f u =
     e
     ∙ ap (λ n. Some n)
-    (sym (ap (λ b. if b then plan.rev0 g else unwrap_or (plan.offer g) (plan.rev0 g)) f ∙ ap (λ x. unwrap_or x (plan.rev0 g)) e))
+    (sym
+    (ap (λ b. if b then plan.rev0 g else unwrap_or (plan.offer g) (plan.rev0 g)) f
+    ∙ ap (λ x. unwrap_or x (plan.rev0 g)) e))
 
 error_refuses :
     (plan : Plan) (g : ℕ) (offer : Option ℕ) (refuses : Bool) →
-    plan.refuse g ≡ refuses → report_by offer refuses ≡ results.Error → (plan.refuse g ≡ true) × (write_of plan g ≡ plan.rev0 g)
+    plan.refuse g ≡ refuses → report_by offer refuses ≡ results.Error →
+    (plan.refuse g ≡ true) × (write_of plan g ≡ plan.rev0 g)
 error_refuses plan g None refuses f u = cc
-error_refuses plan g (Some o) true f u = (f, ap (λ b. if b then plan.rev0 g else unwrap_or (plan.offer g) (plan.rev0 g)) f)
+error_refuses plan g (Some o) true f u =
+    (f, ap (λ b. if b then plan.rev0 g else unwrap_or (plan.offer g) (plan.rev0 g)) f)
 error_refuses plan g (Some o) false f u = cc
 
 runs_offer :
@@ -200,7 +216,9 @@ runs_offer plan words locals first stage g x reported updated =
 
 -- What a thread left with.
 
-left_place : (p : Phase) (mine : ℕ) (z : Bool) (x : ThreadResult) → place_seen (place_in p mine) z ≡ Left x → (p ≡ phase.Left) × (result_of mine ≡ x)
+left_place :
+    (p : Phase) (mine : ℕ) (z : Bool) (x : ThreadResult) → place_seen (place_in p mine) z ≡ Left x →
+    (p ≡ phase.Left) × (result_of mine ≡ x)
 left_place phase.Outside mine true x e = cc
 left_place phase.Outside mine false x e = cc
 left_place phase.Withdrawn mine true x e = cc
@@ -217,26 +235,32 @@ is_updated_or_okay results.Updated = true
 is_updated_or_okay results.Okay = true
 is_updated_or_okay x = false
 
-reports_success : (offer : Option ℕ) (refuses : Bool) → is_updated_or_okay (report_by offer refuses) ≡ true → report_by offer refuses ≡ results.Updated
+reports_success :
+    (offer : Option ℕ) (refuses : Bool) → is_updated_or_okay (report_by offer refuses) ≡ true →
+    report_by offer refuses ≡ results.Updated
 unfolding is_updated_or_okay
 reports_success None refuses e = cc
 reports_success (Some o) true e = cc
 reports_success (Some o) false e = refl
 
-okay_success : (offer : Option ℕ) (refuses : Bool) → is_updated_or_okay (okay_for (report_by offer refuses)) ≡ true → report_by offer refuses ≡ results.Updated
+okay_success :
+    (offer : Option ℕ) (refuses : Bool) → is_updated_or_okay (okay_for (report_by offer refuses)) ≡ true →
+    report_by offer refuses ≡ results.Updated
 unfolding is_updated_or_okay
 okay_success None refuses e = cc
 okay_success (Some o) true e = cc
 okay_success (Some o) false e = refl
 
-no_timeout : (mine : ℕ) (x : ThreadResult) → is_timeout mine ≡ true → result_of mine ≡ x → is_updated_or_okay x ≡ true → ⊥
+no_timeout :
+    (mine : ℕ) (x : ThreadResult) → is_timeout mine ≡ true → result_of mine ≡ x → is_updated_or_okay x ≡ true → ⊥
 unfolding is_updated_or_okay
 no_timeout mine x e f g =
     let five : mine ≡ 5 = equal_numbers mine 5 e in
     let same : false ≡ true = ap (λ n. is_updated_or_okay (result_of n)) (sym five) ∙ ap is_updated_or_okay f ∙ g in cc
 
 success_by :
-    (plan : Plan) (words : Families) (locals : ℕ → Local) (first : Bool) (stage : Stage) (t : ℕ) (drops primary : Bool) (x : ThreadResult) →
+    (plan : Plan) (words : Families) (locals : ℕ → Local) (first : Bool) (stage : Stage) (t : ℕ) (drops primary : Bool)
+    (x : ThreadResult) →
     Sound plan →
     Padded plan →
     RuleBy plan words locals first stage →
@@ -263,7 +287,8 @@ success_by plan words locals first stage t false true x sound padded rule left r
     ∙ ap (λ b. if b then write_in l.phase l.mine else Waiting) leads
     ∙ ap (λ p. write_in p l.mine) left
     ∙ ap (λ b. if b then Waiting else Reported (result_of l.mine)) drops in
-    runs_offer plan words locals first stage g (result_of l.mine) reported (reports_success (plan.offer g) (plan.refuse g) (sym (ap is_updated_or_okay same) ∙ success))
+    runs_offer plan words locals first stage g (result_of l.mine) reported
+    (reports_success (plan.offer g) (plan.refuse g) (sym (ap is_updated_or_okay same) ∙ success))
 success_by plan words locals first stage t false false x sound padded rule left result success drops leads ends =
     let l = locals t in
     let g = plan.group t in
@@ -287,7 +312,8 @@ offline_result p t mine s knows = absurd knows
 
 -- who left with success is of a group that runs its offer
 left_with :
-    (plan : Plan) (words : Families) (locals : ℕ → Local) (first : Bool) (stage : Stage) (t : ℕ) (kind : Kind) (x : ThreadResult) →
+    (plan : Plan) (words : Families) (locals : ℕ → Local) (first : Bool) (stage : Stage) (t : ℕ) (kind : Kind)
+    (x : ThreadResult) →
     Sound plan →
     Padded plan →
     RuleBy plan words locals first stage →
@@ -300,14 +326,16 @@ left_with plan words locals first stage t Online x sound padded rule e there suc
     let s = state plan first locals stage in
     let l = locals t in
     let left = left_place l.phase l.mine ((views plan first locals).settles 0 t) x there in
-    success_by plan words locals first stage t (is_timeout l.mine) (is_primary plan t) x sound padded rule left.0 left.1 success refl refl
+    success_by plan words locals first stage t (is_timeout l.mine)
+    (is_primary plan t) x sound padded rule left.0 left.1 success refl refl
     (left_row l.phase plan t l.at l.mine s left.0 (subst (λ kind. Knows kind plan t l s) e (rule.knows t)))
 left_with plan words locals first stage t Offline x sound padded rule e there success =
     let s = state plan first locals stage in
     let l = locals t in
     let left = left_place l.phase l.mine ((views plan first locals).settles 0 t) x there in
     let six = offline_result l.phase t l.mine s (subst (λ kind. Knows kind plan t l s) e (rule.knows t)) in
-    let same : false ≡ true = ap (λ n. is_updated_or_okay (result_of n)) (sym six) ∙ ap is_updated_or_okay left.1 ∙ success in cc
+    let same : false ≡ true =
+    ap (λ n. is_updated_or_okay (result_of n)) (sym six) ∙ ap is_updated_or_okay left.1 ∙ success in cc
 left_with plan words locals first stage t KindAbsent x sound padded rule e there success =
     let s = state plan first locals stage in
     let l = locals t in
@@ -317,22 +345,27 @@ left_with plan words locals first stage t KindAbsent x sound padded rule e there
 
 seen_is_safe :
     (plan : Plan) (words : Families) (locals : ℕ → Local) (first : Bool) (stage : Stage) (latched : ℕ → Bool) →
-    Sound plan → Padded plan → RuleBy plan words locals first stage → Safe plan (seen plan (views plan first locals) stage latched)
+    Sound plan → Padded plan → RuleBy plan words locals first stage →
+    Safe plan (seen plan (views plan first locals) stage latched)
 unfolding is_updated_or_okay report_of
 seen_is_safe plan words locals first stage latched sound padded rule =
     let s = state plan first locals stage in
     record {
       write_holds_all = λ g u writes of_group part.
           let own : is_in_write (s.group (plan.group u)) ≡ true = ap (λ h. is_in_write (s.group h)) of_group ∙ writes in
-          let going = begun_going plan words locals first stage (plan.group u) sound padded rule (in_write_begun (s.group (plan.group u)) own) in
+          let going =
+          begun_going plan words locals first stage (plan.group u) sound padded rule
+          (in_write_begun (s.group (plan.group u)) own) in
           held_by plan words locals first stage u (plan.kind u) sound padded rule going own refl part;
       nothing_without_go = nothing_yet plan words locals first stage sound padded rule;
       first_or_offer = λ g. first_or_offer plan g (s.group g);
       reported_updated = λ g e.
           runs_offer plan words locals first stage g results.Updated e
           (sym ((reported_is plan words locals first stage g results.Updated sound padded rule e).1));
-      left_updated = λ t e. left_with plan words locals first stage t (plan.kind t) results.Updated sound padded rule refl e refl;
-      left_okay = λ t e. left_with plan words locals first stage t (plan.kind t) results.Okay sound padded rule refl e refl;
+      left_updated =
+          λ t e. left_with plan words locals first stage t (plan.kind t) results.Updated sound padded rule refl e refl;
+      left_okay =
+          λ t e. left_with plan words locals first stage t (plan.kind t) results.Okay sound padded rule refl e refl;
       reported_error = λ g e.
           let report = sym ((reported_is plan words locals first stage g results.Error sound padded rule e).1) in
           let refuses = error_refuses plan g (plan.offer g) (plan.refuse g) refl report in
@@ -342,5 +375,7 @@ seen_is_safe plan words locals first stage latched sound padded rule =
 pub ruled_is_safe : RuledIsSafe
 ruled_is_safe plan moment sound padded rule =
     subst (λ s. Safe plan s)
-    (sym (shown_is_seen plan (families moment.words) moment.locals rule.first rule.stage moment.latched sound padded rule.by))
+    (sym
+    (shown_is_seen plan
+    (families moment.words) moment.locals rule.first rule.stage moment.latched sound padded rule.by))
     (seen_is_safe plan (families moment.words) moment.locals rule.first rule.stage moment.latched sound padded rule.by)

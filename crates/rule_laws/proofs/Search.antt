@@ -15,7 +15,9 @@ pub record First (p : ℕ → Bool) (a b k : ℕ) : Type 0 where
   pub high : k < b
   pub before : (u : ℕ) → a ≤ u → u < k → p u ≡ false
 
-chosen : (b : Bool) (a k : ℕ) (rest : Option ℕ) → cond b (Some a) rest ≡ Some k → ((b ≡ true) × (a ≡ k)) ⊎ ((b ≡ false) × (rest ≡ Some k))
+chosen :
+    (b : Bool) (a k : ℕ) (rest : Option ℕ) → cond b (Some a) rest ≡ Some k →
+    ((b ≡ true) × (a ≡ k)) ⊎ ((b ≡ false) × (rest ≡ Some k))
 chosen true a k rest e = inl (refl, cc)
 chosen false a k rest e = inr (refl, e)
 
@@ -50,7 +52,8 @@ found p a (suc n) k e =
           }
     ]
 
-pub found_none : (p : ℕ → Bool) (a n : ℕ) → find p (range_with_len a n) ≡ None → (u : ℕ) → a ≤ u → u < a + n → p u ≡ false
+pub found_none :
+    (p : ℕ → Bool) (a n : ℕ) → find p (range_with_len a n) ≡ None → (u : ℕ) → a ≤ u → u < a + n → p u ≡ false
 found_none p a zero e u low high = absurd (omega arith)
 found_none p a (suc n) e u low high =
     let not_here = none_chosen (p a) a (find p (range_with_len (a + 1) n)) e in
@@ -76,7 +79,8 @@ online_in_range plan padded k online =
 
 -- the first Offline thread from k on: no Offline thread from k on stands before it
 pub offline_first :
-    (plan : Plan) → Padded plan → (a k : ℕ) → a ≤ plan.threads → offline_from plan a ≡ Some k → First (λ u. is_offline (plan.kind u)) a plan.threads k
+    (plan : Plan) → Padded plan → (a k : ℕ) → a ≤ plan.threads → offline_from plan a ≡ Some k →
+    First (λ u. is_offline (plan.kind u)) a plan.threads k
 unfolding offline_from
 offline_first plan padded a k within e =
     let first = found (λ u. is_offline (plan.kind u)) a (plan.threads - a) k e in

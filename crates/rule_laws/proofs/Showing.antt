@@ -11,7 +11,8 @@ use Rattle.rule_laws.proofs.Assemble.{shown_is_seen}
 
 dropped_online :
     (plan : Plan) (stage : Stage) →
-    ((t : ℕ) → stage ≡ DroppedBy t → plan.kind t ≡ Online) → 3 ≤ decide_of stage → plan.kind (decide_of stage - 3) ≡ Online
+    ((t : ℕ) → stage ≡ DroppedBy t → plan.kind t ≡ Online) → 3 ≤ decide_of stage →
+    plan.kind (decide_of stage - 3) ≡ Online
 dropped_online plan Gathering by low = absurd (omega arith)
 dropped_online plan Going by low = absurd (omega arith)
 dropped_online plan DroppedByKick by low = absurd (omega arith)
@@ -27,7 +28,9 @@ ruled_shows plan moment sound padded rule =
       stands_for = refl;
       arrive = ap (λ w. w.arrive) rule.by.says ∙ ap (λ s. still_awaited plan s.arrived) (sym same);
       off_in = ap (λ w. w.off_in) rule.by.says ∙ ap (λ s. offline_arrived plan s.arrived) (sym same);
-      one_decider = subst (λ (s : State). (u v : ℕ) → s.is_decider u ≡ true → s.is_decider v ≡ true → u ≡ v) (sym same) rule.by.gathered.one_decides;
+      one_decider =
+          subst (λ (s : State). (u v : ℕ) → s.is_decider u ≡ true → s.is_decider v ≡ true → u ≡ v)
+          (sym same) rule.by.gathered.one_decides;
       decided_by_online = λ low.
           ap (λ d. plan.kind (d - 3)) decide
           ∙ dropped_online plan rule.stage rule.by.gathered.dropped_by_online (subst (λ d. 3 ≤ d) decide low);

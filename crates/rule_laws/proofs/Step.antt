@@ -46,7 +46,8 @@ stepped plan t h moment op local next here e f =
 
 -- What a step of thread t changes: its view becomes new, the stage stage', and the state that the views make is the one
 -- after, whatever is latched. The words afterwards are those of that state.
-pub record Change (plan : Plan) (t : ℕ) (words' : Families) (v : Views) (new : View) (stage stage' : Stage) (next : (ℕ → Bool) → State) : Type 0 where
+pub record Change (plan : Plan) (t : ℕ) (words' : Families) (v : Views) (new : View) (stage stage' : Stage)
+    (next : (ℕ → Bool) → State) : Type 0 where
   pub sees : (latched : ℕ → Bool) → seen plan (put_view v t new) stage' latched ≡ next latched
   pub says : words' ≡ words_of plan (next nobody)
   pub gathered : Gathered plan (next nobody).arrived stage' (next nobody).is_decider
@@ -58,11 +59,13 @@ decides_now :
     stage ≡ Gathering →
     (locals u).phase ≡ phase.Deciding → (seen plan (views plan first locals) stage nobody).is_decider u ≡ true
 unfolding views
-decides_now plan locals first stage u e f = and_both (is_gathering stage) (decides_in (locals u).phase) (ap is_gathering e) (ap decides_in f)
+decides_now plan locals first stage u e f =
+    and_both (is_gathering stage) (decides_in (locals u).phase) (ap is_gathering e) (ap decides_in f)
 
 -- the rule after a change
 rule_kept :
-    (plan : Plan) (words words' : Families) (locals : ℕ → Local) (t : ℕ) (new : Local) (first first' : Bool) (stage stage' : Stage) (next : (ℕ → Bool) → State) →
+    (plan : Plan) (words words' : Families) (locals : ℕ → Local) (t : ℕ) (new : Local) (first first' : Bool)
+    (stage stage' : Stage) (next : (ℕ → Bool) → State) →
     RuleBy plan words locals first stage →
     (t ≢ 0 → first' ≡ first) →
     Change plan t words' (views plan first locals) (view plan t first' new) stage stage' next →
@@ -83,10 +86,12 @@ rule_kept plan words words' locals t new first first' stage stage' next rule sam
           u);
     }
 
--- A step keeps the rule, and its item is a step of the model, by its change, what the thread knows then, and the step from
+-- A step keeps the rule, and its item is a step of the model, by its change, what the thread knows then, and the step
+-- from
 -- the state before to the state after. Whether thread 0 has arrived may be given anew by a step of thread 0.
 pub step_kept :
-    (plan : Plan) (moment : Running) (t : ℕ) (h : How) (op : Op) (local new : Local) (item : What) (first first' : Bool) (stage stage' : Stage) (next : (ℕ → Bool) → State) →
+    (plan : Plan) (moment : Running) (t : ℕ) (h : How) (op : Op) (local new : Local) (item : What)
+    (first first' : Bool) (stage stage' : Stage) (next : (ℕ → Bool) → State) →
     Sound plan →
     Padded plan →
     RuleBy plan (families moment.words) moment.locals first stage →
@@ -94,16 +99,21 @@ pub step_kept :
     operation plan t local h ≡ Some op →
     after plan t local h (moment.words (touched op)) ≡ (new, item) →
     (t ≢ 0 → first' ≡ first) →
-    Change plan t (families (words_after moment.words op)) (views plan first moment.locals) (view plan t first' new) stage stage' next →
+    Change plan t (families (words_after moment.words op)) (views plan first moment.locals)
+    (view plan t first' new) stage stage' next →
     Knows (plan.kind t) plan t new (next nobody) →
-    Round plan (seen plan (views plan first moment.locals) stage moment.latched) (event_of h t) item (next moment.latched) →
+    Round plan (seen plan (views plan first moment.locals) stage moment.latched) (event_of h t) item
+    (next moment.latched) →
     Kept plan (event_of h t) moment (steps plan t h moment)
-step_kept plan moment t h op local new item first first' stage stage' next sound padded rule here e f same change knows round =
+step_kept plan moment t h op local new item first first' stage stage' next sound padded rule here e f same change knows
+    round =
     let words' = families (words_after moment.words op) in
     let locals' = put moment.locals t new in
     let rule' : RuleBy plan words' locals' first' stage' =
-    rule_kept plan (families moment.words) words' moment.locals t new first first' stage stage' next rule same change knows in
-    let before = shown_is_seen plan (families moment.words) moment.locals first stage moment.latched sound padded rule in
+    rule_kept plan
+    (families moment.words) words' moment.locals t new first first' stage stage' next rule same change knows in
+    let before =
+    shown_is_seen plan (families moment.words) moment.locals first stage moment.latched sound padded rule in
     let afterwards : shown plan words' locals' moment.latched ≡ next moment.latched =
     shown_is_seen plan words' locals' first' stage' moment.latched sound padded rule'
     ∙ ap (λ x. seen plan x stage' moment.latched) (views_put plan moment.locals first first' t new same)
@@ -113,13 +123,16 @@ step_kept plan moment t h op local new item first first' stage stage' next sound
       rule = record { first = first'; stage = stage'; by = rule' };
       round =
           subst (λ s. Round plan s (event_of h t) item (shown plan words' locals' moment.latched)) (sym before)
-          (subst (λ s. Round plan (seen plan (views plan first moment.locals) stage moment.latched) (event_of h t) item s) (sym afterwards) round);
+          (subst
+          (λ s. Round plan (seen plan (views plan first moment.locals) stage moment.latched) (event_of h t) item s)
+          (sym afterwards) round);
     } in
     subst (λ x. Kept plan (event_of h t) moment x) (sym (stepped plan t h moment op local (new, item) here e f)) there
 
 -- A step that changes no word, and of whose view the state shows nothing new.
 pub unseen_kept :
-    (plan : Plan) (moment : Running) (t : ℕ) (h : How) (op : Op) (local new : Local) (item : What) (first first' : Bool) (stage : Stage) →
+    (plan : Plan) (moment : Running) (t : ℕ) (h : How) (op : Op) (local new : Local) (item : What)
+    (first first' : Bool) (stage : Stage) →
     Sound plan →
     Padded plan →
     RuleBy plan (families moment.words) moment.locals first stage →
@@ -135,7 +148,8 @@ pub unseen_kept :
     Round plan (seen plan (views plan first moment.locals) stage moment.latched) (event_of h t) item
     (seen plan (views plan first moment.locals) stage moment.latched) →
     Kept plan (event_of h t) moment (steps plan t h moment)
-unseen_kept plan moment t h op local new item first first' stage sound padded rule here e f same sees words knows round =
+unseen_kept plan moment t h op local new item first first' stage sound padded rule here e f same sees words knows
+    round =
     step_kept plan moment t h op local new item first first' stage stage
     (λ latched. seen plan (views plan first moment.locals) stage latched)
     sound padded rule here e f same
@@ -150,7 +164,8 @@ unseen_kept plan moment t h op local new item first first' stage sound padded ru
 
 -- A step that changes no word, and whose view stays.
 pub quiet_kept :
-    (plan : Plan) (moment : Running) (t : ℕ) (h : How) (op : Op) (local new : Local) (item : What) (first first' : Bool) (stage : Stage) →
+    (plan : Plan) (moment : Running) (t : ℕ) (h : How) (op : Op) (local new : Local) (item : What)
+    (first first' : Bool) (stage : Stage) →
     Sound plan →
     Padded plan →
     RuleBy plan (families moment.words) moment.locals first stage →
@@ -165,11 +180,13 @@ pub quiet_kept :
     (seen plan (views plan first moment.locals) stage moment.latched) →
     Kept plan (event_of h t) moment (steps plan t h moment)
 unfolding views
-quiet_kept plan moment t h op local new item first first' stage sound padded rule here e f same view_stays words knows round =
+quiet_kept plan moment t h op local new item first first' stage sound padded rule here e f same view_stays words knows
+    round =
     unseen_kept plan moment t h op local new item first first' stage sound padded rule here e f same
     (λ latched.
     ap (λ x. seen plan x stage latched)
-    (same_view (views plan first moment.locals) t (view plan t first' new) (view_stays ∙ ap (view plan t first) (sym here))))
+    (same_view (views plan first moment.locals) t (view plan t first' new)
+    (view_stays ∙ ap (view plan t first) (sym here))))
     words
     knows
     round
@@ -191,7 +208,8 @@ poll_round plan t how.Nmi s own may = cc
 
 -- A step inside the handler that nobody else sees.
 pub inner_kept :
-    (plan : Plan) (moment : Running) (t : ℕ) (h : How) (op : Op) (local new : Local) (first first' : Bool) (stage : Stage) →
+    (plan : Plan) (moment : Running) (t : ℕ) (h : How) (op : Op) (local new : Local) (first first' : Bool)
+    (stage : Stage) →
     Sound plan →
     Padded plan →
     RuleBy plan (families moment.words) moment.locals first stage →
@@ -205,8 +223,10 @@ pub inner_kept :
     Knows (plan.kind t) plan t new (seen plan (views plan first moment.locals) stage nobody) →
     (seen plan (views plan first moment.locals) stage nobody).place t ≡ In →
     Kept plan (event_of h t) moment (steps plan t h moment)
-inner_kept plan moment t h op local new first first' stage sound padded rule own here e f same view_stays words knows is_in =
-    quiet_kept plan moment t h op local new what.Inner first first' stage sound padded rule here e f same view_stays words knows
+inner_kept plan moment t h op local new first first' stage sound padded rule own here e f same view_stays words knows
+    is_in =
+    quiet_kept plan moment t h op local new what.Inner first first' stage sound padded rule here e f same view_stays
+    words knows
     (inner_round plan t h _ own is_in)
 
 -- A poll: the thread counts it, and nothing else changes.
@@ -225,7 +245,8 @@ pub poll_kept :
     MayWait plan t (seen plan (views plan first moment.locals) stage moment.latched) →
     Kept plan (event_of h t) moment (steps plan t h moment)
 poll_kept plan moment t h op local new first stage sound padded rule own here e f view_stays words knows may =
-    quiet_kept plan moment t h op local new what.Poll first first stage sound padded rule here e f (λ other. refl) view_stays words knows
+    quiet_kept plan moment t h op local new what.Poll first first stage sound padded rule here e f
+    (λ other. refl) view_stays words knows
     (poll_round plan t h _ own may)
 
 -- Where a thread stands.
@@ -250,10 +271,12 @@ pub record Stands (p : Phase) (plan : Plan) (t : ℕ) (local : Local) (s : State
 
 online_row :
     (p : Phase) (plan : Plan) (t : ℕ) (local : Local) (s : State) (kind : Kind) →
-    local.phase ≡ p → is_online_phase p ≡ true → Knows kind plan t local s → (kind ≡ Online) × OnlineKnows p plan t local.at local.mine s
+    local.phase ≡ p → is_online_phase p ≡ true → Knows kind plan t local s →
+    (kind ≡ Online) × OnlineKnows p plan t local.at local.mine s
 online_row p plan t local s Online e own knows =
     (refl, subst (λ x. OnlineKnows x plan t local.at local.mine s) e knows)
-online_row p plan t local s Offline e own knows = absurd (never p own (subst (λ x. OfflineKnows x t local.mine s) e knows))
+online_row p plan t local s Offline e own knows =
+    absurd (never p own (subst (λ x. OfflineKnows x t local.mine s) e knows))
   where
     never : (x : Phase) → is_online_phase x ≡ true → OfflineKnows x t local.mine s → ⊥
     never phase.Outside f row = cc
@@ -272,7 +295,8 @@ online_row p plan t local s Absent e own knows = absurd (never p own (sym e ∙ 
 pub stands_in :
     (p : Phase) (plan : Plan) (words : Families) (locals : ℕ → Local) (first : Bool) (stage : Stage) (t : ℕ) →
     RuleBy plan words locals first stage →
-    (locals t).phase ≡ p → is_online_phase p ≡ true → Stands p plan t (locals t) (seen plan (views plan first locals) stage nobody)
+    (locals t).phase ≡ p → is_online_phase p ≡ true →
+    Stands p plan t (locals t) (seen plan (views plan first locals) stage nobody)
 stands_in p plan words locals first stage t rule e own =
     let s = seen plan (views plan first locals) stage nobody in
     let both = online_row p plan t (locals t) s (plan.kind t) e own (rule.knows t) in

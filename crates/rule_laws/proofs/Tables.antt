@@ -41,11 +41,13 @@ put_view v t new =
 
 -- a thread other than 0 sees nothing of whether thread 0 has arrived
 first_unseen :
-    (plan : Plan) (u : ℕ) (first first' : Bool) (local : Local) → u ≢ 0 → view plan u first' local ≡ view plan u first local
+    (plan : Plan) (u : ℕ) (first first' : Bool) (local : Local) → u ≢ 0 →
+    view plan u first' local ≡ view plan u first local
 first_unseen plan u first first' local other =
     let e = different u 0 other in
     ap (λ z. record (view plan u first local) { arrived = arrived_in local.phase local.mine (not z || first') }) e
-    ∙ sym (ap (λ z. record (view plan u first local) { arrived = arrived_in local.phase local.mine (not z || first) }) e)
+    ∙ sym
+    (ap (λ z. record (view plan u first local) { arrived = arrived_in local.phase local.mine (not z || first) }) e)
 
 -- One thread's state changes its view alone. Whether thread 0 has arrived may be given anew by a step of thread 0.
 pub views_put :
@@ -106,13 +108,15 @@ pub only_arrived :
     put_view v t w ≡ record v { arrived = put v.arrived t x; deciding = put v.deciding t d }
 only_arrived v t w x d e =
     ap (put_view v t) e
-    ∙ ap (λ (u : Views). record u { arrived = put v.arrived t x; deciding = put v.deciding t d }) (same_view v t (view_at v t) refl)
+    ∙ ap (λ (u : Views). record u { arrived = put v.arrived t x; deciding = put v.deciding t d })
+    (same_view v t (view_at v t) refl)
 
 pub only_deciding :
     (v : Views) (t : ℕ) (w : View) (x : Bool) →
     w ≡ record (view_at v t) { deciding = x } → put_view v t w ≡ record v { deciding = put v.deciding t x }
 only_deciding v t w x e =
-    ap (put_view v t) e ∙ ap (λ (u : Views). record u { deciding = put v.deciding t x }) (same_view v t (view_at v t) refl)
+    ap (put_view v t) e
+    ∙ ap (λ (u : Views). record u { deciding = put v.deciding t x }) (same_view v t (view_at v t) refl)
 
 pub only_write :
     (v : Views) (t : ℕ) (w : View) (x : GroupPlace) →
@@ -136,7 +140,8 @@ pub only_settles :
     (v : Views) (t : ℕ) (w : View) (x : ℕ → Bool) →
     w ≡ record (view_at v t) { settles = x } → put_view v t w ≡ record v { settles = put v.settles t x }
 only_settles v t w x e =
-    ap (put_view v t) e ∙ ap (λ (u : Views). record u { settles = put v.settles t x }) (same_view v t (view_at v t) refl)
+    ap (put_view v t) e
+    ∙ ap (λ (u : Views). record u { settles = put v.settles t x }) (same_view v t (view_at v t) refl)
 
 -- What the state is then.
 
@@ -174,12 +179,14 @@ sees_place plan v stage latched t x same = sees_place_here plan v stage latched 
 
 pub sees_kicks :
     (plan : Plan) (v : Views) (stage : Stage) (latched : ℕ → Bool) (set : ℕ → Bool) →
-    seen plan (record v { kicks = put v.kicks 0 set }) stage latched ≡ record (seen plan v stage latched) { kicked = set }
+    seen plan (record v { kicks = put v.kicks 0 set }) stage latched
+    ≡ record (seen plan v stage latched) { kicked = set }
 sees_kicks plan v stage latched set =
     λ i. record (seen plan v stage latched) { kicked = put_same v.kicks 0 set i }
 
 -- a group is led by one thread alone
-leads_one : (plan : Plan) (t g : ℕ) → Sound plan → Padded plan → plan.kind t ≡ Online → plan.primary g ≡ t → g ≡ plan.group t
+leads_one :
+    (plan : Plan) (t g : ℕ) → Sound plan → Padded plan → plan.kind t ≡ Online → plan.primary g ≡ t → g ≡ plan.group t
 leads_one plan t g sound padded online e =
     elim (cases_lt g plan.groups) [
       | inl low ↦ sym (sound.primary_is_one_of_its_group g low) ∙ ap plan.group e
@@ -254,7 +261,9 @@ pub sees_settles :
     seen plan (record v { settles = put v.settles 0 (put (v.settles 0) k true) }) stage latched
     ≡ record (seen plan v stage latched) {
       place = put (seen plan v stage latched).place k (place_seen (v.place k) true);
-      freed = put (seen plan v stage latched).freed k (freed_seen (v.place k) (v.frees (plan.primary (plan.group k)) k) true);
+      freed =
+          put (seen plan v stage latched).freed k
+          (freed_seen (v.place k) (v.frees (plan.primary (plan.group k)) k) true);
     }
 sees_settles plan v stage latched k =
     let new = put (v.settles 0) k true in
@@ -265,5 +274,6 @@ sees_settles plan v stage latched k =
     })
     ∙ (λ i. record (seen plan v stage latched) {
       place = put_map (λ u z. place_seen (v.place u) z) (v.settles 0) k true i;
-      freed = put_map (λ u z. freed_seen (v.place u) (v.frees (plan.primary (plan.group u)) u) z) (v.settles 0) k true i;
+      freed =
+          put_map (λ u z. freed_seen (v.place u) (v.frees (plan.primary (plan.group u)) u) z) (v.settles 0) k true i;
     })
