@@ -42,7 +42,8 @@ item_both true x y first second = first
 item_both false x y first second = second
 
 row_both :
-    (b : Bool) (x y : Local × What) → is_counted x.1 ≡ true → is_counted y.1 ≡ true → is_counted (if b then x else y).1 ≡ true
+    (b : Bool) (x y : Local × What) → is_counted x.1 ≡ true → is_counted y.1 ≡ true →
+    is_counted (if b then x else y).1 ≡ true
 row_both true x y first second = first
 row_both false x y first second = second
 
@@ -68,14 +69,17 @@ always OfflineCount = true
 always Leaving = true
 always p = false
 
-always_by : (plan : Plan) (t : ℕ) (local : Local) (words : Word → ℕ) (p : Phase) → always p ≡ true → CountsIn plan t local words p
+always_by :
+    (plan : Plan) (t : ℕ) (local : Local) (words : Word → ℕ) (p : Phase) → always p ≡ true →
+    CountsIn plan t local words p
 always_by plan t local words Kicking e = record { op = Store (word.Nmi local.at) 1; has = refl; counts = refl }
 always_by plan t local words Arriving e = record { op = Sub word.Arrive 1; has = refl; counts = refl }
 always_by plan t local words Deciding e =
     record {
       op = Cas word.Decide 0 1;
       has = refl;
-      counts = row_both (words word.Decide == 0) (go_path plan t local, what.Go) (drop_path plan t local, what.Inner) refl refl;
+      counts = row_both (words word.Decide == 0) (go_path plan t local, what.Go)
+          (drop_path plan t local, what.Inner) refl refl;
     }
 always_by plan t local words Reading e = record { op = Load (word.Rev (plan.group t)); has = refl; counts = refl }
 always_by plan t local words Beginning e = record { op = Store (word.Mode t) 2; has = refl; counts = refl }
@@ -97,7 +101,8 @@ always_by plan t local words Withdrawing e =
       op = Cas (word.Nmi local.at) 1 3;
       has = refl;
       counts =
-          row_both (words (word.Nmi local.at) == 1) (withdraw_at local (offline_from plan (local.at + 1)), what.Withdraw local.at)
+          row_both (words (word.Nmi local.at) == 1)
+          (withdraw_at local (offline_from plan (local.at + 1)), what.Withdraw local.at)
           (to local Releasing, what.Inner) refl refl;
     }
 always_by plan t local words Releasing e =
@@ -107,7 +112,11 @@ always_by plan t local words Releasing e =
       counts = item_both (words (word.Ctrl local.at) == 0) (what.Free local.at) what.Inner refl refl;
     }
 always_by plan t local words OfflineCount e = record { op = Add word.OffIn 1; has = refl; counts = refl }
-always_by plan t local words Leaving e = record { op = Store (word.Mode t) (8 + told local.mine); has = refl; counts = refl }
+always_by plan t local words Leaving e = record {
+  op = Store (word.Mode t) (8 + told local.mine);
+  has = refl;
+  counts = refl;
+}
 always_by plan t local words p e = cc
 
 pub always_counts :
@@ -166,8 +175,10 @@ decided_counts plan t local words e found =
       op = Load word.Decide;
       has = refl;
       counts =
-          ap (λ b. is_counted (if b then (polled local, what.Poll) else by_decision plan t local (words word.Decide)).1) some
-          ∙ row_both (words word.Decide == 1) (go_path plan t local, what.Inner) (drop_path plan t local, what.Inner) refl refl;
+          ap (λ b. is_counted (if b then (polled local, what.Poll) else by_decision plan t local
+          (words word.Decide)).1) some
+          ∙ row_both (words word.Decide == 1) (go_path plan t local, what.Inner)
+          (drop_path plan t local, what.Inner) refl refl;
     })
 
 -- one that finds itself freed
@@ -181,7 +192,8 @@ sibling_counts plan t local words e found =
       has = refl;
       counts =
           ap (λ b. is_counted (if b then (polled local, what.Poll) else by_release local (words (word.Ctrl t))).1) some
-          ∙ row_both (words (word.Ctrl t) == 1) (to local SiblingCheck, what.Inner) (to local SiblingCopy, what.Inner) refl refl;
+          ∙ row_both (words (word.Ctrl t) == 1) (to local SiblingCheck, what.Inner)
+          (to local SiblingCopy, what.Inner) refl refl;
     })
 
 pub held_counts :

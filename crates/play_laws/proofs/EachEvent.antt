@@ -45,7 +45,9 @@ nmi_online Halted kicked latched a b held halted = cc
 nmi_online Withdrawn kicked latched a b held halted = absurd (a refl)
 nmi_online Absent kicked latched a b held halted = absurd (b refl)
 
-halted_idles : (kind : Kind) (cause : Cause) (place : Place) (latched : Bool) → is_halted place ≡ true → may_idle kind cause place latched ≡ true
+halted_idles :
+    (kind : Kind) (cause : Cause) (place : Place) (latched : Bool) → is_halted place ≡ true →
+    may_idle kind cause place latched ≡ true
 halted_idles kind cause Halted latched e = refl
 halted_idles kind cause Out latched e = cc
 halted_idles kind cause In latched e = cc
@@ -53,7 +55,9 @@ halted_idles kind cause (Left x) latched e = cc
 halted_idles kind cause Withdrawn latched e = cc
 halted_idles kind cause Absent latched e = cc
 
-absent_idles : (kind : Kind) (cause : Cause) (place : Place) (latched : Bool) → place ≡ Absent → may_idle kind cause place latched ≡ true
+absent_idles :
+    (kind : Kind) (cause : Cause) (place : Place) (latched : Bool) → place ≡ Absent →
+    may_idle kind cause place latched ≡ true
 absent_idles kind cause place latched e = rw e refl
 
 -- an Offline thread that is not in the handler does nothing at an attempt, where no latch comes through
@@ -81,7 +85,8 @@ nmi_offline_runs Absent kicked latched e = cc
 
 nmi_offline_idles :
     (place : Place) (latched : Bool) →
-    is_held place ≡ false → is_out place ≡ false → (has_left place || is_withdrawn place) ≡ false → may_idle Offline Nmi place latched ≡ true
+    is_held place ≡ false → is_out place ≡ false → (has_left place || is_withdrawn place) ≡ false →
+    may_idle Offline Nmi place latched ≡ true
 nmi_offline_idles Halted latched held out over = refl
 nmi_offline_idles Absent latched held out over = refl
 nmi_offline_idles (Left x) latched held out over = cc
@@ -102,7 +107,8 @@ module _ (plan : Plan) (m : Running) (t : ℕ) (sound : Sound plan) (padded : Pa
 
   -- both cases of a test
   both_led : (cause : Cause) (b : Bool) (x y : Running × What) →
-      (b ≡ true → LedBy plan t cause m x) → (b ≡ false → LedBy plan t cause m y) → LedBy plan t cause m (if b then x else y)
+      (b ≡ true → LedBy plan t cause m x) → (b ≡ false → LedBy plan t cause m y) →
+      LedBy plan t cause m (if b then x else y)
   both_led cause true x y first second = first refl
   both_led cause false x y first second = second refl
 
@@ -110,37 +116,45 @@ module _ (plan : Plan) (m : Running) (t : ℕ) (sound : Sound plan) (padded : Pa
   runs_by_led : (kind : Kind) → plan.kind t ≡ kind → is_held place ≡ false → LedBy plan t Run m (runs_by kind plan t m)
   runs_by_led Online e held =
       both_led Run (shows_halted m.words t) (idles m) (runs_ordinary t m)
-      (λ halted. idle_led plan t Run m lawful (halted_idles (plan.kind t) Run place (m.latched t) (sym tells.halted ∙ halted)))
+      (λ halted. idle_led plan t Run m lawful
+      (halted_idles (plan.kind t) Run place (m.latched t) (sym tells.halted ∙ halted)))
       (λ not_halted.
       let where_ = online_at plan m t e in
       ordinary_led plan t Run m lawful
-      (subst (λ kind. (is_free_to_run kind Run place ((shown_by plan m).kicked t) || comes_through Run place (m.latched t)) ≡ true) (sym e)
-      (run_online place ((shown_by plan m).kicked t) (m.latched t) where_.0 where_.1 held (sym tells.halted ∙ not_halted))))
+      (subst (λ kind. (is_free_to_run kind Run place ((shown_by plan m).kicked t) || comes_through Run place
+      (m.latched t)) ≡ true) (sym e)
+      (run_online place ((shown_by plan m).kicked t) (m.latched t) where_.0 where_.1 held
+      (sym tells.halted ∙ not_halted))))
   runs_by_led Offline e held =
       both_led Run (left_with_latch t m) (runs_ordinary t m) (idles m)
       (λ on. ordinary_led plan t Run m lawful
-      (through (plan.kind t) Run place ((shown_by plan m).kicked t) (m.latched t) (λ f. cc) (ap (λ b. b && m.latched t) (sym tells.left) ∙ on)))
+      (through (plan.kind t) Run place ((shown_by plan m).kicked t) (m.latched t) (λ f. cc)
+      (ap (λ b. b && m.latched t) (sym tells.left) ∙ on)))
       (λ off. idle_led plan t Run m lawful
       (subst (λ kind. may_idle kind Run place (m.latched t) ≡ true) (sym e)
       (run_offline place (m.latched t) held (ap (λ b. b && m.latched t) (sym tells.left) ∙ off))))
   runs_by_led KindAbsent e held =
-      idle_led plan t Run m lawful (absent_idles (plan.kind t) Run place (m.latched t) (absent_at plan m t sound padded lawful.ruled e))
+      idle_led plan t Run m lawful (absent_idles (plan.kind t) Run place (m.latched t)
+      (absent_at plan m t sound padded lawful.ruled e))
 
   -- an NMI from elsewhere, at a thread that is not in the handler
   nmi_offline_led : plan.kind t ≡ Offline → is_held place ≡ false → LedBy plan t Nmi m (nmi_offline plan t m)
   nmi_offline_led e held =
       let over = shows_left m.words t || shows_withdrawn plan m.words t in
       let is_over : over ≡ (has_left place || is_withdrawn place) = both_same _ _ _ _ tells.left tells.withdrawn in
-      both_led Nmi (is_outside (m.locals t).phase) (steps plan t how.Nmi m) (if over then runs_ordinary t m else idles m)
+      both_led Nmi (is_outside (m.locals t).phase) (steps plan t how.Nmi m)
+      (if over then runs_ordinary t m else idles m)
       (λ outside. nmi_outside_led plan m t sound padded lawful e (is_outside_by (m.locals t).phase outside))
       (λ inside.
       both_led Nmi over (runs_ordinary t m) (idles m)
       (λ on. ordinary_led plan t Nmi m lawful
-      (subst (λ kind. (is_free_to_run kind Nmi place ((shown_by plan m).kicked t) || comes_through Nmi place (m.latched t)) ≡ true) (sym e)
+      (subst (λ kind. (is_free_to_run kind Nmi place ((shown_by plan m).kicked t) || comes_through Nmi place
+      (m.latched t)) ≡ true) (sym e)
       (nmi_offline_runs place ((shown_by plan m).kicked t) (m.latched t) (sym is_over ∙ on))))
       (λ off. idle_led plan t Nmi m lawful
       (subst (λ kind. may_idle kind Nmi place (m.latched t) ≡ true) (sym e)
-      (nmi_offline_idles place (m.latched t) held (came_in plan m t sound padded lawful.ruled e inside) (sym is_over ∙ off)))))
+      (nmi_offline_idles place (m.latched t) held (came_in plan m t sound padded lawful.ruled e inside)
+      (sym is_over ∙ off)))))
     where
       both_same : (a b c d : Bool) → a ≡ c → b ≡ d → (a || b) ≡ (c || d)
       both_same a b c d e f = rw (e, f) refl
@@ -148,15 +162,19 @@ module _ (plan : Plan) (m : Running) (t : ℕ) (sound : Sound plan) (padded : Pa
   nmi_by_led : (kind : Kind) → plan.kind t ≡ kind → is_held place ≡ false → LedBy plan t Nmi m (nmi_by kind plan t m)
   nmi_by_led Online e held =
       both_led Nmi (shows_halted m.words t) (idles m) (runs_ordinary t m)
-      (λ halted. idle_led plan t Nmi m lawful (halted_idles (plan.kind t) Nmi place (m.latched t) (sym tells.halted ∙ halted)))
+      (λ halted. idle_led plan t Nmi m lawful
+      (halted_idles (plan.kind t) Nmi place (m.latched t) (sym tells.halted ∙ halted)))
       (λ not_halted.
       let where_ = online_at plan m t e in
       ordinary_led plan t Nmi m lawful
-      (subst (λ kind. (is_free_to_run kind Nmi place ((shown_by plan m).kicked t) || comes_through Nmi place (m.latched t)) ≡ true) (sym e)
-      (nmi_online place ((shown_by plan m).kicked t) (m.latched t) where_.0 where_.1 held (sym tells.halted ∙ not_halted))))
+      (subst (λ kind. (is_free_to_run kind Nmi place ((shown_by plan m).kicked t) || comes_through Nmi place
+      (m.latched t)) ≡ true) (sym e)
+      (nmi_online place ((shown_by plan m).kicked t) (m.latched t) where_.0 where_.1 held
+      (sym tells.halted ∙ not_halted))))
   nmi_by_led Offline e held = nmi_offline_led e held
   nmi_by_led KindAbsent e held =
-      idle_led plan t Nmi m lawful (absent_idles (plan.kind t) Nmi place (m.latched t) (absent_at plan m t sound padded lawful.ruled e))
+      idle_led plan t Nmi m lawful (absent_idles (plan.kind t) Nmi place (m.latched t)
+      (absent_at plan m t sound padded lawful.ruled e))
 
   nmi_led : LedBy plan t Nmi m (nmi_comes plan t m)
   nmi_led =
@@ -166,7 +184,8 @@ module _ (plan : Plan) (m : Running) (t : ℕ) (sound : Sound plan) (padded : Pa
 
   -- an attempt to run ordinary code
   run_by : (held : Bool) → shows_held plan m.words t ≡ held →
-      LedBy plan t (if held then Step else Run) m (if held then steps plan t how.Step m else runs_by (plan.kind t) plan t m)
+      LedBy plan t (if held then Step else Run) m
+      (if held then steps plan t how.Step m else runs_by (plan.kind t) plan t m)
   run_by true on = steps_led plan m t how.Step sound padded lawful refl
   run_by false off = runs_by_led (plan.kind t) refl (sym tells.held ∙ off)
 

@@ -27,7 +27,8 @@ module _ (law : EventLaw) (plan : Plan) (sound : Sound plan) (padded : Padded pl
       Lawful plan (moment_at plan m (event ∷ events) (suc k))
   lawful_by m event events k true over lawful rest =
       subst (Lawful plan) (sym (moment_at_over plan m (event ∷ events) (suc k) over)) lawful
-  lawful_by m event events k false over lawful rest = subst (Lawful plan) (sym (moment_at_next plan m event events k over)) rest
+  lawful_by m event events k false over lawful rest =
+      subst (Lawful plan) (sym (moment_at_next plan m event events k over)) rest
 
   pub lawful_at : (m : Running) (events : List Event) (k : ℕ) → Lawful plan m → Lawful plan (moment_at plan m events k)
   lawful_at m events zero lawful = lawful
@@ -40,7 +41,8 @@ module _ (law : EventLaw) (plan : Plan) (sound : Sound plan) (padded : Padded pl
 
   abbrev Answers : Running → List Event → ℕ → Event → Item → Type 0
   Answers m events k event item =
-      Answered plan event item (shown_by plan (moment_at plan m events k)) (shown_by plan (moment_at plan m events (suc k)))
+      Answered plan event item (shown_by plan (moment_at plan m events k))
+      (shown_by plan (moment_at plan m events (suc k)))
 
   first_answers : (m : Running) (event : Event) (events : List Event) (item : Item) →
       is_over plan m ≡ false → Lawful plan m → item_of plan m event ≡ item → Answers m (event ∷ events) zero event item
@@ -54,11 +56,13 @@ module _ (law : EventLaw) (plan : Plan) (sound : Sound plan) (padded : Padded pl
   answers_by : (m : Running) (first : Event) (events : List Event) (k : ℕ) (event : Event) (item : Item) (over : Bool) →
       is_over plan m ≡ over → Lawful plan m →
       ((j : ℕ) → k ≡ suc j → slice_get events j ≡ Some event →
-      slice_get (play plan (happens plan first m).0 events) j ≡ Some item → Answers (happens plan first m).0 events j event item) →
+      slice_get (play plan (happens plan first m).0 events) j ≡ Some item →
+      Answers (happens plan first m).0 events j event item) →
       slice_get (first ∷ events) k ≡ Some event → slice_get (play plan m (first ∷ events)) k ≡ Some item →
       Answers m (first ∷ events) k event item
   answers_by m first events k event item true over lawful rest e f =
-      let none : None ≡ Some item = sym (ap (λ (items : List Item). slice_get items k) (play_over plan m (first ∷ events) over)) ∙ f in cc
+      let none : None ≡ Some item = sym (ap (λ (items : List Item). slice_get items k)
+      (play_over plan m (first ∷ events) over)) ∙ f in cc
   answers_by m first events zero event item false over lawful rest e f =
       let one : Some (item_of plan m first) ≡ Some item =
       sym (ap (λ (items : List Item). slice_get items zero) (play_next plan m first events over)) ∙ f in
@@ -69,18 +73,22 @@ module _ (law : EventLaw) (plan : Plan) (sound : Sound plan) (padded : Padded pl
   answers_by m first events (suc j) event item false over lawful rest e f =
       let later : slice_get (play plan (happens plan first m).0 events) j ≡ Some item =
       sym (ap (λ (items : List Item). slice_get items (suc j)) (play_next plan m first events over)) ∙ f in
-      subst (λ x. Answered plan event item (shown_by plan x) (shown_by plan (moment_at plan m (first ∷ events) (suc (suc j)))))
+      subst (λ x. Answered plan event item (shown_by plan x)
+      (shown_by plan (moment_at plan m (first ∷ events) (suc (suc j)))))
       (sym (moment_at_next plan m first events j over))
-      (subst (λ x. Answered plan event item (shown_by plan (moment_at plan (happens plan first m).0 events j)) (shown_by plan x))
+      (subst (λ x. Answered plan event item (shown_by plan (moment_at plan (happens plan first m).0 events j))
+      (shown_by plan x))
       (sym (moment_at_next plan m first events (suc j) over))
       (rest j refl e later))
 
   answers_at : (m : Running) (events : List Event) (k : ℕ) (event : Event) (item : Item) →
-      Lawful plan m → slice_get events k ≡ Some event → slice_get (play plan m events) k ≡ Some item → Answers m events k event item
+      Lawful plan m → slice_get events k ≡ Some event → slice_get (play plan m events) k ≡ Some item →
+      Answers m events k event item
   answers_at m [] k event item lawful e f = cc
   answers_at m (first ∷ events) k event item lawful e f =
       answers_by m first events k event item (is_over plan m) refl lawful
-      (λ j is e' f'. answers_at (happens plan first m).0 events j event item (law plan first m sound padded lawful).lawful e' f') e f
+      (λ j is e' f'. answers_at (happens plan first m).0 events j event item
+      (law plan first m sound padded lawful).lawful e' f') e f
 
   -- The items end where it is over, or with the events.
 
@@ -88,9 +96,11 @@ module _ (law : EventLaw) (plan : Plan) (sound : Sound plan) (padded : Padded pl
       is_over plan m ≡ over →
       (is_over plan (last_moment plan (happens plan event m).0 events) ≡ true)
       ⊎ (length (play plan (happens plan event m).0 events) ≡ length events) →
-      (is_over plan (last_moment plan m (event ∷ events)) ≡ true) ⊎ (length (play plan m (event ∷ events)) ≡ length (event ∷ events))
+      (is_over plan (last_moment plan m (event ∷ events)) ≡ true) ⊎
+      (length (play plan m (event ∷ events)) ≡ length (event ∷ events))
   ends_by m event events true over rest = inl (ap (is_over plan) (last_moment_over plan m (event ∷ events) over) ∙ over)
-  ends_by m event events false over (inl done) = inl (ap (is_over plan) (last_moment_next plan m event events over) ∙ done)
+  ends_by m event events false over (inl done) =
+      inl (ap (is_over plan) (last_moment_next plan m event events over) ∙ done)
   ends_by m event events false over (inr all) = inr (ap length (play_next plan m event events over) ∙ ap suc all)
 
   pub ends_at : (m : Running) (events : List Event) →
@@ -107,7 +117,9 @@ pub moments_are_lawful : MomentsAreLawful
 moments_are_lawful plan events k sound padded =
     lawful_at event_law plan sound padded (opening_running plan) events k (opening_lawful plan sound padded)
 
-pub run_of : (plan : Plan) (events : List Event) → Sound plan → Padded plan → Run plan events (items_of plan events) (state_at plan events)
+pub run_of :
+    (plan : Plan) (events : List Event) → Sound plan → Padded plan →
+    Run plan events (items_of plan events) (state_at plan events)
 run_of plan events sound padded =
     let m = opening_running plan in
     record {
@@ -120,8 +132,11 @@ run_of plan events sound padded =
       ends = by (ends_at event_law plan sound padded m events);
     }
   where
-    by : (is_over plan (last_moment plan (opening_running plan) events) ≡ true) ⊎ (length (items_of plan events) ≡ length events) →
-        (unfinished_count plan (state_at plan events (length (items_of plan events))) ≡ 0) ⊎ (length (items_of plan events) ≡ length events)
+    by :
+        (is_over plan (last_moment plan (opening_running plan) events) ≡ true) ⊎
+        (length (items_of plan events) ≡ length events) →
+        (unfinished_count plan (state_at plan events (length (items_of plan events))) ≡ 0) ⊎
+        (length (items_of plan events) ≡ length events)
     by (inl over) =
         inl (ap (λ x. unfinished_count plan (shown_by plan x)) (sym (last_moment_is plan (opening_running plan) events))
         ∙ over_none plan (last_moment plan (opening_running plan) events) over)

@@ -83,28 +83,35 @@ module _ (plan : Plan) (m : Running) (first : Bool) (stage : Stage) (sound : Sou
   pub data OnlineEnd (t : ℕ) : Type 0 where
     after_go : stage ≡ Going → s.place t ≡ Left (result_for plan t) → OnlineEnd t
     after_drop : is_dropped stage ≡ true → s.place t ≡ Left results.Timeout → OnlineEnd t
-    in_halt : stage ≡ Going → is_primary plan t ≡ false → s.place t ≡ Halted → (m.locals t).phase ≡ phase.Halted → OnlineEnd t
+    in_halt :
+        stage ≡ Going → is_primary plan t ≡ false → s.place t ≡ Halted → (m.locals t).phase ≡ phase.Halted →
+        OnlineEnd t
 
   timed_out : (mine : ℕ) → is_timeout mine ≡ true → result_of mine ≡ results.Timeout
   timed_out mine e = let five : mine ≡ 5 = equal_numbers mine 5 e in ap result_of five
 
   left_end : (t : ℕ) (b : Bool) →
-      is_timeout (m.locals t).mine ≡ b → Ends b plan t (m.locals t).mine s → s.place t ≡ Left (result_of (m.locals t).mine) → OnlineEnd t
+      is_timeout (m.locals t).mine ≡ b → Ends b plan t (m.locals t).mine s →
+      s.place t ≡ Left (result_of (m.locals t).mine) → OnlineEnd t
   left_end t true e ends place = after_drop ends (place ∙ ap Left (timed_out (m.locals t).mine e))
-  left_end t false e ends place = after_go ends.0 (place ∙ ap Left (ap result_of ends.1 ∙ number_back (result_for plan t)))
+  left_end t false e ends place = after_go ends.0
+      (place ∙ ap Left (ap result_of ends.1 ∙ number_back (result_for plan t)))
 
   online_by : (t : ℕ) (p : Phase) →
       (m.locals t).phase ≡ p → OnlineKnows p plan t (m.locals t).at (m.locals t).mine s → is_last p ≡ true → OnlineEnd t
   online_by t phase.Left e knows last =
-      left_end t (is_timeout (m.locals t).mine) refl knows (place_at plan m first stage sound padded rule t phase.Left e)
-  online_by t phase.Halted e knows last = in_halt knows.1 knows.0 (place_at plan m first stage sound padded rule t phase.Halted e) e
+      left_end t (is_timeout (m.locals t).mine) refl knows
+      (place_at plan m first stage sound padded rule t phase.Left e)
+  online_by t phase.Halted e knows last = in_halt knows.1 knows.0
+      (place_at plan m first stage sound padded rule t phase.Halted e) e
   online_by t phase.Withdrawn e knows last = absurd knows
   online_by t phase.Nothing e knows last = absurd knows
   online_by t p e knows last = cc
 
   pub online_end : (t : ℕ) → plan.kind t ≡ Online → is_last (m.locals t).phase ≡ true → OnlineEnd t
   online_end t online last =
-      online_by t (m.locals t).phase refl (knows_online plan m first stage sound padded rule t (m.locals t).phase online refl) last
+      online_by t (m.locals t).phase refl (knows_online plan m first stage sound padded rule t (m.locals t).phase
+      online refl) last
 
   -- an Offline thread at its end
   pub data OfflineEnd (t : ℕ) : Type 0 where
@@ -123,11 +130,13 @@ module _ (plan : Plan) (m : Running) (first : Bool) (stage : Stage) (sound : Sou
 
   pub offline_end : (t : ℕ) → plan.kind t ≡ Offline → is_last (m.locals t).phase ≡ true → OfflineEnd t
   offline_end t offline last =
-      offline_by t (m.locals t).phase refl (knows_offline plan m first stage sound padded rule t (m.locals t).phase offline refl) last
+      offline_by t (m.locals t).phase refl (knows_offline plan m first stage sound padded rule t (m.locals t).phase
+      offline refl) last
 
   pub absent_end : (t : ℕ) → plan.kind t ≡ KindAbsent → s.place t ≡ Absent
   absent_end t absent =
-      let nothing : (m.locals t).phase ≡ phase.Nothing = subst (λ kind. Knows kind plan t (m.locals t) s) absent (rule.knows t) in
+      let nothing : (m.locals t).phase ≡ phase.Nothing =
+      subst (λ kind. Knows kind plan t (m.locals t) s) absent (rule.knows t) in
       place_at plan m first stage sound padded rule t phase.Nothing nothing
 
   -- it was decided
@@ -145,7 +154,8 @@ module _ (plan : Plan) (m : Running) (first : Bool) (stage : Stage) (sound : Sou
   decided last = decided_by (online_end 0 sound.thread_0_is_online last)
 
   -- one whose kick was taken back was not there
-  pub withdrawn_dropped : (t : ℕ) → s.place t ≡ Withdrawn → (m.locals t).phase ≡ phase.Withdrawn → is_dropped stage ≡ true
+  pub withdrawn_dropped :
+      (t : ℕ) → s.place t ≡ Withdrawn → (m.locals t).phase ≡ phase.Withdrawn → is_dropped stage ≡ true
   unfolding views
   withdrawn_dropped t place e =
       settled_dropped plan (families m.words) m.locals first stage t sound rule
@@ -168,7 +178,9 @@ module _ (plan : Plan) (m : Running) (first : Bool) (stage : Stage) (sound : Sou
   revision_by None true g e f = rw f refl
   revision_by None false g e f = rw (f, e) refl
 
-  lead_revision : (g : ℕ) → stage ≡ Going → is_primary plan (plan.primary g) ≡ true → (m.locals (plan.primary g)).phase ≡ phase.Left →
+  lead_revision :
+      (g : ℕ) → stage ≡ Going → is_primary plan (plan.primary g) ≡ true →
+      (m.locals (plan.primary g)).phase ≡ phase.Left →
       is_timeout (m.locals (plan.primary g)).mine ≡ false → s.revision g ≡ write_of plan g
   unfolding views
   lead_revision g going leads e none =
@@ -180,7 +192,8 @@ module _ (plan : Plan) (m : Running) (first : Bool) (stage : Stage) (sound : Sou
   absent_revision : (g : ℕ) → (m.locals (plan.primary g)).phase ≡ phase.Nothing → s.revision g ≡ plan.rev0 g
   unfolding views
   absent_revision g e =
-      ap (λ x. revision_in plan g (if is_primary plan (plan.primary g) then write_in x (m.locals (plan.primary g)).mine else Waiting)) e
+      ap (λ x. revision_in plan g (if is_primary plan (plan.primary g) then write_in x
+      (m.locals (plan.primary g)).mine else Waiting)) e
       ∙ waits (is_primary plan (plan.primary g))
     where
       waits : (b : Bool) → revision_in plan g (if b then Waiting else Waiting) ≡ plan.rev0 g
@@ -217,12 +230,14 @@ module _ (plan : Plan) (m : Running) (first : Bool) (stage : Stage) (sound : Sou
       elim (led plan g sound padded) [
         | inl lead ↦
             let p = plan.primary g in
-            let leads : is_primary plan p ≡ true = same_numbers p (plan.primary (plan.group p)) (ap plan.primary (sym lead.1)) in
+            let leads : is_primary plan p ≡ true =
+            same_numbers p (plan.primary (plan.group p)) (ap plan.primary (sym lead.1)) in
             let here = lead_phase p (m.locals p).phase going leads refl (last p (online_in_range plan padded p lead.0))
             (knows_online plan m first stage sound padded rule p (m.locals p).phase lead.0 refl) in
             lead_revision g going leads here.0 here.1 ∙ revision_by (plan.offer g) (plan.refuse g) g refl refl
         | inr absent ↦
             let nothing : (m.locals (plan.primary g)).phase ≡ phase.Nothing =
-            subst (λ kind. Knows kind plan (plan.primary g) (m.locals (plan.primary g)) s) absent (rule.knows (plan.primary g)) in
+            subst (λ kind. Knows kind plan (plan.primary g) (m.locals (plan.primary g)) s) absent
+            (rule.knows (plan.primary g)) in
             absent_revision g nothing ∙ no_offer_by g (plan.offer g) absent refl
       ]

@@ -73,7 +73,9 @@ rises plan events items states sound padded run g (suc k) within =
     let same = ap (λ n. (states n).revision g) next in
     omega arith
 
-offer_rises : (plan : Plan) (g : ℕ) (offer : Option ℕ) (refuses : Bool) → Sound plan → g < plan.groups → plan.offer g ≡ offer →
+offer_rises :
+    (plan : Plan) (g : ℕ) (offer : Option ℕ) (refuses : Bool) → Sound plan → g < plan.groups →
+    plan.offer g ≡ offer →
     plan.rev0 g ≤ revision_after_go offer refuses (plan.rev0 g)
 offer_rises plan g (Some o) false sound within e = let greater = sound.offer_is_greater g o within e in omega arith
 offer_rises plan g (Some o) true sound within e = omega arith
@@ -81,9 +83,11 @@ offer_rises plan g None refuses sound within e = omega arith
 
 pub ran_grows : (line : Item → List ℕ) (lists : Bool) → RanGrows line lists
 ran_grows line true plan beats text outcome late sound padded ran g within =
-    let last = rises plan (events_of plan beats) ran.items (λ k. shown_by plan (ran.moments k)) sound padded ran.answers g (length ran.items) (omega arith) in
+    let last = rises plan (events_of plan beats) ran.items (λ k. shown_by plan (ran.moments k)) sound padded
+    ran.answers g (length ran.items) (omega arith) in
     let read = ap (λ (xs : List ℕ). slice_index xs g) ran.comes_out.revs
-    ∙ get_or-map-range_with_len (shown_by plan (ran.moments (length ran.items))).revision 0 plan.groups g g 0 within (omega arith) in
+    ∙ get_or-map-range_with_len (shown_by plan (ran.moments (length ran.items))).revision 0 plan.groups g g 0 within
+    (omega arith) in
     omega arith
 ran_grows line false plan beats text outcome late sound padded ran g within =
     elim (cases_lt outcome.decide 2) [

@@ -20,14 +20,17 @@ Happens plan m events k event item =
     happens plan event (moment_at plan m events k) ≡ (moment_at plan m events (suc k), item.what)
 
 happened_by :
-    (plan : Plan) (m : Running) (first : Event) (events : List Event) (k : ℕ) (event : Event) (item : Item) (over : Bool) →
+    (plan : Plan) (m : Running) (first : Event) (events : List Event) (k : ℕ) (event : Event) (item : Item)
+    (over : Bool) →
     is_over plan m ≡ over →
     ((j : ℕ) → k ≡ suc j → slice_get events j ≡ Some event →
-    slice_get (play plan (happens plan first m).0 events) j ≡ Some item → Happens plan (happens plan first m).0 events j event item) →
+    slice_get (play plan (happens plan first m).0 events) j ≡ Some item →
+    Happens plan (happens plan first m).0 events j event item) →
     slice_get (first ∷ events) k ≡ Some event → slice_get (play plan m (first ∷ events)) k ≡ Some item →
     Happens plan m (first ∷ events) k event item
 happened_by plan m first events k event item true over rest e f =
-    let none : None ≡ Some item = sym (ap (λ (items : List Item). slice_get items k) (play_over plan m (first ∷ events) over)) ∙ f in cc
+    let none : None ≡ Some item = sym (ap (λ (items : List Item). slice_get items k)
+    (play_over plan m (first ∷ events) over)) ∙ f in cc
 happened_by plan m first events zero event item false over rest e f =
     let one : Some (item_of plan m first) ≡ Some item =
     sym (ap (λ (items : List Item). slice_get items zero) (play_next plan m first events over)) ∙ f in

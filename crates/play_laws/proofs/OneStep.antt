@@ -19,7 +19,8 @@ pub moment_step :
 moment_step plan moment t h op sound padded ruled own e =
     let found = moment.words (touched op) in
     let next = after plan t (moment.locals t) h found in
-    let law = step_law plan moment.words moment.locals moment.latched t (moment.locals t) h op found sound padded ruled own refl e refl in
+    let law = step_law plan moment.words moment.locals moment.latched t (moment.locals t) h op found sound padded
+    ruled own refl e refl in
     subst (λ x. Kept plan (event_of h t) moment x)
     (sym (stepped plan t h moment op (moment.locals t) next refl e refl))
     (record { rule = law.0; round = law.1 })

@@ -42,7 +42,8 @@ before_end KindAbsent mode nmi taken e = refl
 unfinished_by :
     (halted left withdrawn absent : Bool) (x : ThreadResult) (place : Place) →
     is_unfinished place ≡ not (withdrawn || absent) →
-    is_unfinished (if halted then Halted else if left then Left x else place) ≡ not (((left || halted) || withdrawn) || absent)
+    is_unfinished (if halted then Halted else if left then Left x else place) ≡ not
+    (((left || halted) || withdrawn) || absent)
 unfinished_by true true withdrawn absent x place e = refl
 unfinished_by true false withdrawn absent x place e = refl
 unfinished_by false true withdrawn absent x place e = refl
@@ -53,7 +54,8 @@ pub unfinished_is :
     is_unfinished ((shown_by plan moment).place t) ≡ not (shows_finished plan moment.words t)
 unfinished_is plan moment t =
     let w = families moment.words in
-    unfinished_by (w.ctrl t == 3) (nat_le 8 (w.mode t)) (is_offline (plan.kind t) && (w.nmi t == 3)) (is_absent (plan.kind t))
+    unfinished_by (w.ctrl t == 3) (nat_le 8 (w.mode t)) (is_offline (plan.kind t) && (w.nmi t == 3))
+    (is_absent (plan.kind t))
     (result_of (w.mode t - 8)) (place_before_end (plan.kind t) (w.mode t) (w.nmi t))
     (before_end (plan.kind t) (w.mode t) (w.nmi t) (w.nmi t == 2) refl)
 
@@ -61,20 +63,23 @@ unfinished_is plan moment t =
 
 count_any : (p : ℕ → Bool) (xs : List ℕ) → not (list_any p xs) ≡ (count_by p xs == 0)
 count_any p [] = refl
-count_any p (x ∷ xs) = by (p x) (list_any p xs) (count_by p xs) (count_any p xs) ∙ ap (λ n. n == 0) (sym (sum_by-cons (λ u. cond (p u) 1 0) x xs))
+count_any p (x ∷ xs) = by (p x) (list_any p xs) (count_by p xs) (count_any p xs)
+    ∙ ap (λ n. n == 0) (sym (sum_by-cons (λ u. cond (p u) 1 0) x xs))
   where
     by : (b any : Bool) (n : ℕ) → not any ≡ (n == 0) → not (b || any) ≡ (cond b 1 0 + n == 0)
     by true any n e = grind (arith, nat_tests)
     by false any n e = grind (arith, nat_tests)
 
 -- It is over just where no thread is unfinished in the state that is shown.
-pub over_is : (plan : Plan) (moment : Running) → is_over plan moment ≡ (unfinished_count plan (shown_by plan moment) == 0)
+pub over_is :
+    (plan : Plan) (moment : Running) → is_over plan moment ≡ (unfinished_count plan (shown_by plan moment) == 0)
 unfolding unfinished_count
 over_is plan moment =
     count_any (λ t. not (shows_finished plan moment.words t)) (threads_from plan 0)
     ∙ ap (λ p. count_by p (threads_from plan 0) == 0) (fun_ext (λ t. sym (unfinished_is plan moment t)))
 
-pub over_none : (plan : Plan) (moment : Running) → is_over plan moment ≡ true → unfinished_count plan (shown_by plan moment) ≡ 0
+pub over_none :
+    (plan : Plan) (moment : Running) → is_over plan moment ≡ true → unfinished_count plan (shown_by plan moment) ≡ 0
 over_none plan moment over =
     let e : (unfinished_count plan (shown_by plan moment) == 0) ≡ true = sym (over_is plan moment) ∙ over in
     zero_by (unfinished_count plan (shown_by plan moment)) e
@@ -82,7 +87,9 @@ over_none plan moment over =
     zero_by : (n : ℕ) → (n == 0) ≡ true → n ≡ 0
     zero_by n e = grind (arith, nat_tests)
 
-pub goes_on_some : (plan : Plan) (moment : Running) → is_over plan moment ≡ false → 0 < unfinished_count plan (shown_by plan moment)
+pub goes_on_some :
+    (plan : Plan) (moment : Running) → is_over plan moment ≡ false →
+    0 < unfinished_count plan (shown_by plan moment)
 goes_on_some plan moment goes_on =
     let e : (unfinished_count plan (shown_by plan moment) == 0) ≡ false = sym (over_is plan moment) ∙ goes_on in
     some_by (unfinished_count plan (shown_by plan moment)) e

@@ -60,7 +60,9 @@ pub record InTime (s : State) : Type 0 where
   pub undropped : is_dropped s.stage ≡ false
   pub none_halted : (u : ℕ) → is_halted (s.place u) ≡ false
 
-not_halted : (place : ℕ → Place) (t u : ℕ) (new : Place) → is_halted new ≡ false → is_halted (place u) ≡ false → is_halted (put place t new u) ≡ false
+not_halted :
+    (place : ℕ → Place) (t u : ℕ) (new : Place) → is_halted new ≡ false → is_halted (place u) ≡ false →
+    is_halted (put place t new u) ≡ false
 not_halted place t u new now before =
     elim (same_or_not u t) [
       | inl e ↦ ap is_halted (ap (put place t new) e ∙ put_same place t new) ∙ now
@@ -73,14 +75,23 @@ in_time_by :
 in_time_by plan t cause s what.Enter s' by patient before =
     record { undropped = before.undropped; none_halted = λ u. not_halted s.place t u In refl (before.none_halted u) }
 in_time_by plan t cause s (what.Leave x) s' by patient before =
-    record { undropped = before.undropped; none_halted = λ u. not_halted s.place t u (Left x) refl (before.none_halted u) }
+    record {
+      undropped = before.undropped;
+      none_halted = λ u. not_halted s.place t u (Left x) refl
+          (before.none_halted u);
+    }
 in_time_by plan t cause s (what.Withdraw k) s' by patient before =
-    record { undropped = before.undropped; none_halted = λ u. not_halted s.place k u Withdrawn refl (before.none_halted u) }
+    record {
+      undropped = before.undropped;
+      none_halted = λ u. not_halted s.place k u Withdrawn refl
+          (before.none_halted u);
+    }
 in_time_by plan t cause s what.Go s' by patient before = record { undropped = refl; none_halted = before.none_halted }
 in_time_by plan t cause s what.Drop s' by patient before = absurd (patient by.out_of_patience)
 in_time_by plan t cause s what.DropKick s' by patient before = absurd (patient by.out_of_patience)
 in_time_by plan t cause s what.Halt s' by patient before = absurd (patient by.out_of_patience)
-in_time_by plan t cause s item s' by patient before = record { undropped = before.undropped; none_halted = before.none_halted }
+in_time_by plan t cause s item s' by patient before =
+    record { undropped = before.undropped; none_halted = before.none_halted }
 
 in_time_opening : (plan : Plan) → InTime (opening_state plan)
 in_time_opening plan = record { undropped = refl; none_halted = λ u. outside (plan.kind u) }
@@ -99,8 +110,10 @@ module _ (law : EventLaw) (plan : Plan) (sound : Sound plan) (padded : Padded pl
       let s = shown_by plan m in
       let after = happens plan happened m in
       let led = law plan happened m sound padded lawful in
-      subst InTime (sym (changed plan (thread_of happened) (cause_of s happened) s after.1 (shown_by plan after.0) led.round))
-      (in_time_by plan (thread_of happened) (cause_of s happened) s after.1 (shown_by plan after.0) led.round patient before)
+      subst InTime (sym (changed plan (thread_of happened) (cause_of s happened) s after.1 (shown_by plan after.0)
+      led.round))
+      (in_time_by plan (thread_of happened) (cause_of s happened) s after.1 (shown_by plan after.0) led.round
+      patient before)
 
   abbrev Patient : Running → Type 0
   Patient m = Lawful plan m × InTime (shown_by plan m)
@@ -111,9 +124,11 @@ module _ (law : EventLaw) (plan : Plan) (sound : Sound plan) (padded : Padded pl
       ((law plan happened m sound padded before.0).lawful, in_time_led happened m before.0 patient before.1)
 
   one_by : (m : Running) (happened : Event) (events : List Event) (over : Bool) → is_over plan m ≡ over →
-      Patient m → (Patient (happens plan happened m).0 → Patient (last_moment plan (happens plan happened m).0 events)) →
+      Patient m →
+      (Patient (happens plan happened m).0 → Patient (last_moment plan (happens plan happened m).0 events)) →
       cause_of (shown_by plan m) happened ≢ Timeout → Patient (last_moment plan m (happened ∷ events))
-  one_by m happened events true over before rest patient = subst Patient (sym (last_moment_over plan m (happened ∷ events) over)) before
+  one_by m happened events true over before rest patient =
+      subst Patient (sym (last_moment_over plan m (happened ∷ events) over)) before
   one_by m happened events false over before rest patient =
       subst Patient (sym (last_moment_next plan m happened events over)) (rest (patient_led happened m patient before))
 
@@ -130,14 +145,18 @@ module _ (law : EventLaw) (plan : Plan) (sound : Sound plan) (padded : Padded pl
       (m : Running) → Patient m → Patient (last_moment plan m (repeated n (steps_from 0 (plan.threads - 0)) rest))
   rounds_patient zero rest later m before = later m before
   rounds_patient (suc n) rest later m before =
-      subst Patient (sym (last_moment_append plan m (steps_from 0 (plan.threads - 0)) (repeated n (steps_from 0 (plan.threads - 0)) rest)))
-      (rounds_patient n rest later (last_moment plan m (steps_from 0 (plan.threads - 0))) (steps_patient 0 (plan.threads - 0) m before))
+      subst Patient (sym (last_moment_append plan m (steps_from 0 (plan.threads - 0))
+      (repeated n (steps_from 0 (plan.threads - 0)) rest)))
+      (rounds_patient n rest later (last_moment plan m (steps_from 0 (plan.threads - 0)))
+      (steps_patient 0 (plan.threads - 0) m before))
 
   run_cause : (held : Bool) → (if held then Step else Run) ≢ Timeout
   run_cause true e = cc
   run_cause false e = cc
 
-  rest_all : (b : Beat) (beats : List Beat) → All (λ b. is_in_time b ≡ true) (b ∷ beats) → All (λ b. is_in_time b ≡ true) beats
+  rest_all :
+      (b : Beat) (beats : List Beat) → All (λ b. is_in_time b ≡ true) (b ∷ beats) →
+      All (λ b. is_in_time b ≡ true) beats
   rest_all b beats all k d within = all (suc k) d (omega arith)
 
   beats_patient : (beats : List Beat) → All (λ b. is_in_time b ≡ true) beats →
@@ -145,21 +164,26 @@ module _ (law : EventLaw) (plan : Plan) (sound : Sound plan) (padded : Padded pl
   beats_patient [] patient m before = before
   beats_patient (beat.One (event.Step t) ∷ beats) patient m before =
       one_by m (event.Step t) (events_of plan beats) (is_over plan m) refl before
-      (beats_patient beats (rest_all (beat.One (event.Step t)) beats patient) (happens plan (event.Step t) m).0) (λ e. cc)
+      (beats_patient beats (rest_all (beat.One (event.Step t)) beats patient) (happens plan (event.Step t) m).0)
+      (λ e. cc)
   beats_patient (beat.One (event.Nmi t) ∷ beats) patient m before =
       one_by m (event.Nmi t) (events_of plan beats) (is_over plan m) refl before
       (beats_patient beats (rest_all (beat.One (event.Nmi t)) beats patient) (happens plan (event.Nmi t) m).0) (λ e. cc)
   beats_patient (beat.One (event.Run t) ∷ beats) patient m before =
       one_by m (event.Run t) (events_of plan beats) (is_over plan m) refl before
-      (beats_patient beats (rest_all (beat.One (event.Run t)) beats patient) (happens plan (event.Run t) m).0) (run_cause (is_held ((shown_by plan m).place t)))
-  beats_patient (beat.One (event.Timeout t) ∷ beats) patient m before = absurd (true≢false (sym (patient 0 (beat.One (event.Timeout t)) (omega arith))))
+      (beats_patient beats (rest_all (beat.One (event.Run t)) beats patient) (happens plan (event.Run t) m).0)
+      (run_cause (is_held ((shown_by plan m).place t)))
+  beats_patient (beat.One (event.Timeout t) ∷ beats) patient m before =
+      absurd (true≢false (sym (patient 0 (beat.One (event.Timeout t)) (omega arith))))
   beats_patient (beat.Rounds n ∷ beats) patient m before =
       rounds_patient n (events_of plan beats) (beats_patient beats (rest_all (beat.Rounds n) beats patient)) m before
 
 -- At the end each thread has come to its last phase.
 
 -- each thread is finished where it is over
-over_each : (plan : Plan) (m : Running) (u : ℕ) → is_over plan m ≡ true → u < plan.threads → shows_finished plan m.words u ≡ true
+over_each :
+    (plan : Plan) (m : Running) (u : ℕ) → is_over plan m ≡ true → u < plan.threads →
+    shows_finished plan m.words u ≡ true
 over_each plan m u over within =
     elim (cases_Bool (shows_finished plan m.words u)) [
       | inl on ↦ on
@@ -167,7 +191,8 @@ over_each plan m u over within =
           let at : get_or (range_with_len 0 (plan.threads - 0)) u 0 ≡ u =
           get_or-range_with_len 0 (plan.threads - 0) u 0 (omega arith) ∙ omega arith in
           let ends = length-range_with_len 0 (plan.threads - 0) in
-          let some = list_any_at (λ t. not (shows_finished plan m.words t)) (range_with_len 0 (plan.threads - 0)) u 0 (omega arith)
+          let some = list_any_at (λ t. not (shows_finished plan m.words t)) (range_with_len 0 (plan.threads - 0)) u
+          0 (omega arith)
           (ap (λ t. not (shows_finished plan m.words t)) at ∙ ap not off) in
           no _ (ap not some) over
     ]
@@ -202,17 +227,21 @@ in_time_unlisted :
     Sound plan → Padded plan → Ruled plan m → InTime (shown_by plan m) → is_over plan m ≡ true →
     OutcomeShows plan outcome (shown_by plan m) → Unlisted plan [] outcome false
 in_time_unlisted plan m outcome sound padded ruled patient over shows =
-    let shown = shown_is_seen plan (families m.words) m.locals ruled.first ruled.stage m.latched sound padded ruled.by in
-    let undropped : is_dropped ruled.stage ≡ false = sym (ap (λ (x : State). is_dropped x.stage) shown) ∙ patient.undropped in
+    let shown = shown_is_seen plan (families m.words) m.locals ruled.first ruled.stage m.latched sound padded
+    ruled.by in
+    let undropped : is_dropped ruled.stage ≡ false = sym (ap (λ (x : State). is_dropped x.stage) shown)
+    ∙ patient.undropped in
     let place = λ (u : ℕ). place_is plan m ruled.first ruled.stage sound padded ruled.by u in
     ends_are_unlisted plan m outcome false sound padded ruled
     (λ u within.
     last_by plan m ruled.first ruled.stage sound padded ruled.by undropped u (m.locals u).phase refl
     (ap is_unfinished (sym (place u)) ∙ (unfinished_is plan m u ∙ ap not (over_each plan m u over within))))
-    (λ e. subst (λ n. n < 2) (sym (shows.decide ∙ ap (λ (x : State). decide_of x.stage) shown)) (below_two ruled.stage undropped))
+    (λ e. subst (λ n. n < 2) (sym (shows.decide ∙ ap (λ (x : State). decide_of x.stage) shown))
+    (below_two ruled.stage undropped))
     (λ e u halted.
     no _ (patient.none_halted u)
-    (ap is_halted (place u) ∙ ap is_halted (halted_place plan m ruled.first ruled.stage sound padded ruled.by undropped u halted)))
+    (ap is_halted (place u) ∙ ap is_halted (halted_place plan m ruled.first ruled.stage sound padded ruled.by
+    undropped u halted)))
     shows
 
 -- The verdict.
@@ -226,7 +255,9 @@ unfinished_not ends.Unfinished e = absurd (e refl)
 unfinished_not end e = refl
 
 -- what a primary leaves with is no error, where its group does not refuse
-no_error : (offer : Option ℕ) (refuses : Bool) → ((o : ℕ) → offer ≡ Some o → refuses ≡ false) → left_with_error (ends.Left (primary_result offer refuses)) ≡ false
+no_error :
+    (offer : Option ℕ) (refuses : Bool) → ((o : ℕ) → offer ≡ Some o → refuses ≡ false) →
+    left_with_error (ends.Left (primary_result offer refuses)) ≡ false
 no_error None refuses none = refl
 no_error (Some o) false none = refl
 no_error (Some o) true none = absurd (true≢false (none o refl))
@@ -285,7 +316,8 @@ patient_unlisted plan beats outcome sound padded patient enough shows =
     let lawful = opening_lawful plan sound padded in
     let last = beats_patient event_law plan sound padded beats patient (opening_running plan)
     (lawful, subst InTime (sym (opening_is_shown plan sound padded)) (in_time_opening plan)) in
-    in_time_unlisted plan m outcome sound padded last.0.ruled last.1 (enough_rounds plan beats sound padded enough) shows
+    in_time_unlisted plan m outcome sound padded last.0.ruled last.1 (enough_rounds plan beats sound padded enough)
+    shows
 
 pub patient_is_done : PatientIsDone
 patient_is_done plan beats outcome sound padded none patient enough shows =

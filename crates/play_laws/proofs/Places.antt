@@ -20,7 +20,9 @@ use Rattle.rule_laws.specs.Kept.{Ruled}
 use Rattle.play_laws.proofs.Told.{place_is}
 
 -- a thread without an operation has come to its last phase
-last_by : (plan : Plan) (t : ℕ) (local : Local) (h : How) (p : Phase) → operation_in plan t local h p ≡ None → is_last p ≡ true
+last_by :
+    (plan : Plan) (t : ℕ) (local : Local) (h : How) (p : Phase) → operation_in plan t local h p ≡ None →
+    is_last p ≡ true
 last_by plan t local h phase.Left e = refl
 last_by plan t local h phase.Halted e = refl
 last_by plan t local h phase.Withdrawn e = refl
@@ -29,7 +31,8 @@ last_by plan t local how.Step p e = cc
 last_by plan t local how.Timeout p e = cc
 last_by plan t local how.Nmi p e = cc
 
-pub no_operation : (plan : Plan) (t : ℕ) (local : Local) (h : How) → operation plan t local h ≡ None → is_last local.phase ≡ true
+pub no_operation :
+    (plan : Plan) (t : ℕ) (local : Local) (h : How) → operation plan t local h ≡ None → is_last local.phase ≡ true
 unfolding operation
 no_operation plan t local h e = last_by plan t local h local.phase e
 
@@ -72,7 +75,8 @@ ended plan moment t sound padded ruled last =
     let l = moment.locals t in
     let s = seen plan (views plan ruled.first moment.locals) ruled.stage nobody in
     ap is_unfinished (place_is plan moment ruled.first ruled.stage sound padded ruled.by t)
-    ∙ ended_by (plan.kind t) l.phase plan t l.at l.polls l.mine s ((views plan ruled.first moment.locals).settles 0 t) refl (ruled.by.knows t) last
+    ∙ ended_by (plan.kind t) l.phase plan t l.at l.polls l.mine s
+    ((views plan ruled.first moment.locals).settles 0 t) refl (ruled.by.knows t) last
 
 pub came_in :
     (plan : Plan) (moment : Running) (t : ℕ) →

@@ -34,7 +34,8 @@ led_by plan t cause before after lawful ruled round =
 pub idle_led :
     (plan : Plan) (t : ℕ) (cause : Cause) (moment : Running) →
     Lawful plan moment →
-    may_idle (plan.kind t) cause ((shown_by plan moment).place t) (moment.latched t) ≡ true → LedBy plan t cause moment (idles moment)
+    may_idle (plan.kind t) cause ((shown_by plan moment).place t) (moment.latched t) ≡ true →
+    LedBy plan t cause moment (idles moment)
 idle_led plan t cause moment lawful may =
     led_by plan t cause moment (idles moment) lawful lawful.ruled (record { may = may; change = refl })
 
@@ -51,7 +52,8 @@ pub latch_led :
     (plan : Plan) (t : ℕ) (moment : Running) →
     Lawful plan moment → (shown_by plan moment).place t ≡ In → LedBy plan t Nmi moment (latches t moment)
 latch_led plan t moment lawful is_in =
-    led_by plan t Nmi moment (latches t moment) lawful lawful.ruled (record { by_nmi = refl; is_in = is_in; change = refl })
+    led_by plan t Nmi moment (latches t moment) lawful lawful.ruled
+    (record { by_nmi = refl; is_in = is_in; change = refl })
 
 -- What each place and kind allows.
 
@@ -61,7 +63,8 @@ no b off on = absurd (true≢false (sym on ∙ off))
 -- one that came to its end idles, where no latch comes through
 pub quiet_end :
     (kind : Kind) (cause : Cause) (place : Place) (latched : Bool) →
-    is_own cause ≡ true → is_unfinished place ≡ false → (has_left place && latched) ≡ false → may_idle kind cause place latched ≡ true
+    is_own cause ≡ true → is_unfinished place ≡ false → (has_left place && latched) ≡ false →
+    may_idle kind cause place latched ≡ true
 quiet_end kind Step (Left x) latched own over none = ap not none
 quiet_end kind Timeout (Left x) latched own over none = ap not none
 quiet_end kind cause Halted latched own over none = refl
@@ -82,9 +85,12 @@ pub through :
     (kind : Kind) (cause : Cause) (place : Place) (kicked latched : Bool) →
     cause ≢ Nmi → (has_left place && latched) ≡ true →
     (is_free_to_run kind cause place kicked || comes_through cause place latched) ≡ true
-through kind Step place kicked latched not_nmi on = either_true (is_free_to_run kind Step place kicked) (has_left place && latched) on
-through kind Timeout place kicked latched not_nmi on = either_true (is_free_to_run kind Timeout place kicked) (has_left place && latched) on
-through kind Run place kicked latched not_nmi on = either_true (is_free_to_run kind Run place kicked) (has_left place && latched) on
+through kind Step place kicked latched not_nmi on =
+    either_true (is_free_to_run kind Step place kicked) (has_left place && latched) on
+through kind Timeout place kicked latched not_nmi on =
+    either_true (is_free_to_run kind Timeout place kicked) (has_left place && latched) on
+through kind Run place kicked latched not_nmi on =
+    either_true (is_free_to_run kind Run place kicked) (has_left place && latched) on
 through kind Nmi place kicked latched not_nmi on = absurd (not_nmi refl)
 
 pub is_in_by : (place : Place) → is_held place ≡ true → place ≡ In

@@ -44,7 +44,9 @@ released_some : (group : GroupPlace) → release_code group ≢ 0
 released_some (Reported results.Updated) e = omega arith
 released_some group e = omega arith
 
-freed_some : (place : Place) (freed : Bool) (group : GroupPlace) → place ≡ In → freed ≡ true → ctrl_code place freed group ≢ 0
+freed_some :
+    (place : Place) (freed : Bool) (group : GroupPlace) → place ≡ In → freed ≡ true →
+    ctrl_code place freed group ≢ 0
 freed_some place freed group e f = rw (e, f) (released_some group)
 
 dropped_some : (stage : Stage) → is_dropped stage ≡ true → decide_of stage ≢ 0
@@ -97,30 +99,44 @@ module _ (plan : Plan) (m : Running) (first : Bool) (stage : Stage) (sound : Sou
   nmi_word t = ap (λ (w : Families). w.nmi t) rule.says
 
   -- a thread inside that was freed finds it
-  freed_word : (t : ℕ) (p : Phase) → (m.locals t).phase ≡ p → place_in p (m.locals t).mine ≡ In → s.freed t ≡ true → m.words (word.Ctrl t) ≢ 0
+  freed_word :
+      (t : ℕ) (p : Phase) → (m.locals t).phase ≡ p → place_in p (m.locals t).mine ≡ In → s.freed t ≡ true →
+      m.words (word.Ctrl t) ≢ 0
   unfolding views
   freed_word t p e inside freed f =
       let is_in : s.place t ≡ In =
-      ap (λ x. place_seen (place_in x (m.locals t).mine) (v.settles 0 t)) e ∙ ap (λ x. place_seen x (v.settles 0 t)) inside in
+      ap (λ x. place_seen (place_in x (m.locals t).mine) (v.settles 0 t)) e
+      ∙ ap (λ x. place_seen x (v.settles 0 t)) inside in
       freed_some (s.place t) (s.freed t) (s.group (plan.group t)) is_in freed (sym (ctrl_word t) ∙ f)
 
-  pub knows_online : (t : ℕ) (p : Phase) → plan.kind t ≡ Online → (m.locals t).phase ≡ p → OnlineKnows p plan t (m.locals t).at (m.locals t).mine s
+  pub knows_online :
+      (t : ℕ) (p : Phase) → plan.kind t ≡ Online → (m.locals t).phase ≡ p →
+      OnlineKnows p plan t (m.locals t).at (m.locals t).mine s
   knows_online t p online e =
       subst (λ x. OnlineKnows x plan t (m.locals t).at (m.locals t).mine s) e
       (subst (λ kind. Knows kind plan t (m.locals t) s) online (rule.knows t))
 
-  pub knows_offline : (t : ℕ) (p : Phase) → plan.kind t ≡ Offline → (m.locals t).phase ≡ p → OfflineKnows p t (m.locals t).mine s
+  pub knows_offline :
+      (t : ℕ) (p : Phase) → plan.kind t ≡ Offline → (m.locals t).phase ≡ p → OfflineKnows p t (m.locals t).mine s
   knows_offline t p offline e =
       subst (λ x. OfflineKnows x t (m.locals t).mine s) e
       (subst (λ kind. Knows kind plan t (m.locals t) s) offline (rule.knows t))
 
   -- the step of t counts in this phase, whatever it finds
   ready : (t : ℕ) (p : Phase) → t < plan.threads → (m.locals t).phase ≡ p → always p ≡ true → Found plan m
-  ready t p within e on = record { thread = t; in_range = within; counts = always_counts plan t (m.locals t) m.words p e on }
+  ready t p within e on = record {
+    thread = t;
+    in_range = within;
+    counts = always_counts plan t (m.locals t) m.words p e on;
+  }
 
   ready_waiting : (t : ℕ) → t < plan.threads → (m.locals t).phase ≡ phase.Waiting → decide_of stage ≢ 0 → Found plan m
   ready_waiting t within e some =
-      record { thread = t; in_range = within; counts = decided_counts plan t (m.locals t) m.words e (λ f. some (sym decide_word ∙ f)) }
+      record {
+        thread = t;
+        in_range = within;
+        counts = decided_counts plan t (m.locals t) m.words e (λ f. some (sym decide_word ∙ f));
+      }
 
   ready_outside : (t : ℕ) → t < plan.threads → plan.kind t ≡ Online → (m.locals t).phase ≡ phase.Outside → Found plan m
   ready_outside t within online e =
@@ -143,7 +159,8 @@ module _ (plan : Plan) (m : Running) (first : Bool) (stage : Stage) (sound : Sou
   not_arrived_by t phase.Leaving within online e other knows missing = ready t phase.Leaving within e refl
   not_arrived_by t phase.Left within online e other knows missing =
       let given : (t == 0) ≡ false = different t 0 other in
-      no _ missing (ap (λ b. if is_timeout (m.locals t).mine then not b || first else true) given ∙ all_true (is_timeout (m.locals t).mine))
+      no _ missing (ap (λ b. if is_timeout (m.locals t).mine then not b || first else true) given
+      ∙ all_true (is_timeout (m.locals t).mine))
     where
       all_true : (b : Bool) → (if b then true else true) ≡ true
       all_true true = refl
@@ -170,7 +187,8 @@ module _ (plan : Plan) (m : Running) (first : Bool) (stage : Stage) (sound : Sou
       (ap (λ p. settles_in p (m.locals 0).at (m.locals 0).mine k) e)
 
   stands_word : (k : ℕ) →
-      plan.kind k ≡ Offline → (m.locals k).phase ≡ phase.Outside → v.kicks 0 k ≡ true → v.settles 0 k ≡ false → m.words (word.Nmi k) ≡ 1
+      plan.kind k ≡ Offline → (m.locals k).phase ≡ phase.Outside → v.kicks 0 k ≡ true → v.settles 0 k ≡ false →
+      m.words (word.Nmi k) ≡ 1
   unfolding views
   stands_word k offline outside kicked unsettled =
       nmi_word k
@@ -187,7 +205,8 @@ module _ (plan : Plan) (m : Running) (first : Bool) (stage : Stage) (sound : Sou
       let same : Out ≡ Withdrawn = sym out ∙ f in cc
 
   not_zero : (k : ℕ) → plan.kind k ≡ Offline → (k == 0) ≡ false
-  not_zero k offline = different k 0 (λ e. let same : Offline ≡ Online = sym offline ∙ (ap plan.kind e ∙ sound.thread_0_is_online) in cc)
+  not_zero k offline = different k 0 (λ e. let same : Offline ≡ Online = sym offline
+      ∙ (ap plan.kind e ∙ sound.thread_0_is_online) in cc)
 
   all_true : (b : Bool) → (if b then true else true) ≡ true
   all_true true = refl
@@ -208,13 +227,16 @@ module _ (plan : Plan) (m : Running) (first : Bool) (stage : Stage) (sound : Sou
   offline_by k phase.OfflineCount within offline e zero knows missing = ready k phase.OfflineCount within e refl
   offline_by k phase.Leaving within offline e zero knows missing = ready k phase.Leaving within e refl
   offline_by k phase.Left within offline e zero knows missing =
-      no _ missing (ap (λ b. if is_timeout (m.locals k).mine then not b || first else true) (not_zero k offline) ∙ all_true (is_timeout (m.locals k).mine))
-  offline_by k phase.Withdrawn within offline e zero knows missing = absurd (no_withdrawal k e (unsettled_by_zero k zero) knows.0)
+      no _ missing (ap (λ b. if is_timeout (m.locals k).mine then not b || first else true) (not_zero k offline)
+      ∙ all_true (is_timeout (m.locals k).mine))
+  offline_by k phase.Withdrawn within offline e zero knows missing =
+      absurd (no_withdrawal k e (unsettled_by_zero k zero) knows.0)
   offline_by k phase.OfflineHold within offline e zero knows missing = cc
   offline_by k phase.Halted within offline e zero knows missing = cc
   offline_by k p within offline e zero knows missing = absurd knows
 
-  offline_missing : (k : ℕ) → plan.kind k ≡ Offline → (m.locals 0).phase ≡ phase.OfflineWait → s.arrived k ≡ false → Found plan m
+  offline_missing :
+      (k : ℕ) → plan.kind k ≡ Offline → (m.locals 0).phase ≡ phase.OfflineWait → s.arrived k ≡ false → Found plan m
   unfolding views
   offline_missing k offline zero missing =
       offline_by k (m.locals k).phase (offline_in_range plan padded k offline) offline refl zero
@@ -226,7 +248,8 @@ module _ (plan : Plan) (m : Running) (first : Bool) (stage : Stage) (sound : Sou
       (m.locals 0).phase ≡ phase.OfflineWait → Found plan m
   unfolding offline_count offline_arrived
   all_in_or_one (inl all) zero =
-      let same = count_same (λ u. is_offline (plan.kind u) && s.arrived u) (λ u. is_offline (plan.kind u)) 0 (plan.threads - 0)
+      let same = count_same (λ u. is_offline (plan.kind u) && s.arrived u) (λ u. is_offline (plan.kind u)) 0
+      (plan.threads - 0)
       (λ u. counted_or (is_offline (plan.kind u)) (s.arrived u)
       (elim (cases_lt u plan.threads) [
         | inl within ↦ all u (omega arith) (omega arith)
@@ -251,7 +274,8 @@ module _ (plan : Plan) (m : Running) (first : Bool) (stage : Stage) (sound : Sou
       offline_by_test KindAbsent e = cc
 
   zero_waits_offline : (m.locals 0).phase ≡ phase.OfflineWait → Found plan m
-  zero_waits_offline zero = all_in_or_one (all_or_one (λ u. not (is_offline (plan.kind u)) || s.arrived u) 0 (plan.threads - 0)) zero
+  zero_waits_offline zero = all_in_or_one (all_or_one (λ u. not (is_offline (plan.kind u)) || s.arrived u) 0
+      (plan.threads - 0)) zero
 
   -- Thread 0 waits for the decision.
 
@@ -297,7 +321,8 @@ module _ (plan : Plan) (m : Running) (first : Bool) (stage : Stage) (sound : Sou
   zero_waits_by gathers (inr one) zero =
       let parts = either_false (not (is_online (plan.kind one.at))) (s.arrived one.at) one.fails in
       online_missing one.at (online_by_test (plan.kind one.at) parts.0)
-      (λ e. true≢false (sym (ap (λ p. arrived_in p (m.locals 0).mine (not (0 == 0) || first)) zero) ∙ (ap s.arrived (sym e) ∙ parts.1))) parts.1
+      (λ e. true≢false (sym (ap (λ p. arrived_in p (m.locals 0).mine (not (0 == 0) || first)) zero)
+      ∙ (ap s.arrived (sym e) ∙ parts.1))) parts.1
     where
       online_by_test : (kind : Kind) → not (is_online kind) ≡ false → kind ≡ Online
       online_by_test Online e = refl
@@ -318,14 +343,16 @@ module _ (plan : Plan) (m : Running) (first : Bool) (stage : Stage) (sound : Sou
       (m.locals p).phase ≡ x → stage ≡ Going → v.frees p u ≡ false → s.arrived p ≡ true →
       OnlineKnows x plan p (m.locals p).at (m.locals p).mine s → Found plan m
   unfolding views
-  lead_by p u phase.Outside within online leads sib e going unfreed came knows = no _ (ap (λ x. arrived_in x (m.locals p).mine (not (p == 0) || first)) e) came
+  lead_by p u phase.Outside within online leads sib e going unfreed came knows =
+      no _ (ap (λ x. arrived_in x (m.locals p).mine (not (p == 0) || first)) e) came
   lead_by p u phase.Waiting within online leads sib e going unfreed came knows =
       ready_waiting p within e (going_some stage going)
   lead_by p u phase.SiblingWait within online leads sib e going unfreed came knows = no _ knows.0 leads
   lead_by p u phase.SiblingCheck within online leads sib e going unfreed came knows = no _ knows.0.0 leads
   lead_by p u phase.SiblingCopy within online leads sib e going unfreed came knows = no _ knows.0.0 leads
   lead_by p u phase.Halted within online leads sib e going unfreed came knows = no _ knows.0 leads
-  lead_by p u phase.OfflineWait within online leads sib e going unfreed came knows = no _ (ap (λ x. arrived_in x (m.locals p).mine (not (p == 0) || first)) e) came
+  lead_by p u phase.OfflineWait within online leads sib e going unfreed came knows =
+      no _ (ap (λ x. arrived_in x (m.locals p).mine (not (p == 0) || first)) e) came
   lead_by p u phase.Left within online leads sib e going unfreed came knows =
       left_by (is_timeout (m.locals p).mine) refl knows
     where
@@ -344,7 +371,8 @@ module _ (plan : Plan) (m : Running) (first : Bool) (stage : Stage) (sound : Sou
   lead_by p u phase.Checking within online leads sib e going unfreed came knows = ready p phase.Checking within e refl
   lead_by p u phase.Reporting within online leads sib e going unfreed came knows = ready p phase.Reporting within e refl
   lead_by p u phase.Freeing within online leads sib e going unfreed came knows = ready p phase.Freeing within e refl
-  lead_by p u phase.Withdrawing within online leads sib e going unfreed came knows = ready p phase.Withdrawing within e refl
+  lead_by p u phase.Withdrawing within online leads sib e going unfreed came knows =
+      ready p phase.Withdrawing within e refl
   lead_by p u phase.Releasing within online leads sib e going unfreed came knows = ready p phase.Releasing within e refl
   lead_by p u phase.Leaving within online leads sib e going unfreed came knows = ready p phase.Leaving within e refl
   lead_by p u x within online leads sib e going unfreed came knows = absurd knows
@@ -367,7 +395,9 @@ module _ (plan : Plan) (m : Running) (first : Bool) (stage : Stage) (sound : Sou
 
   -- Thread 0 has left, and another thread is unfinished.
 
-  pub place_at : (u : ℕ) (p : Phase) → (m.locals u).phase ≡ p → s.place u ≡ place_seen (place_in p (m.locals u).mine) (v.settles 0 u)
+  pub place_at :
+      (u : ℕ) (p : Phase) → (m.locals u).phase ≡ p →
+      s.place u ≡ place_seen (place_in p (m.locals u).mine) (v.settles 0 u)
   unfolding views
   place_at u p e = ap (λ x. place_seen (place_in x (m.locals u).mine) (v.settles 0 u)) e
 
@@ -375,7 +405,8 @@ module _ (plan : Plan) (m : Running) (first : Bool) (stage : Stage) (sound : Sou
       s.freed u ≡ (v.frees (plan.primary (plan.group u)) u || v.settles 0 u)
   unfolding views
   freed_at u p e inside =
-      let place : place_in (m.locals u).phase (m.locals u).mine ≡ In = ap (λ x. place_in x (m.locals u).mine) e ∙ inside in
+      let place : place_in (m.locals u).phase (m.locals u).mine ≡ In = ap (λ x. place_in x (m.locals u).mine) e
+      ∙ inside in
       ap (λ x. freed_seen x (v.frees (plan.primary (plan.group u)) u) (v.settles 0 u)) place
 
   -- one that waits to be freed by its primary
@@ -398,7 +429,8 @@ module _ (plan : Plan) (m : Running) (first : Bool) (stage : Stage) (sound : Sou
 
   after_zero_online : (u : ℕ) (p : Phase) →
       u < plan.threads → plan.kind u ≡ Online → (m.locals u).phase ≡ p → (m.locals 0).phase ≡ phase.Left →
-      decide_of stage ≢ 0 → OnlineKnows p plan u (m.locals u).at (m.locals u).mine s → is_unfinished (s.place u) ≡ true → Found plan m
+      decide_of stage ≢ 0 → OnlineKnows p plan u (m.locals u).at (m.locals u).mine s →
+      is_unfinished (s.place u) ≡ true → Found plan m
   after_zero_online u phase.Outside within online e zero decided knows unfinished = ready_outside u within online e
   after_zero_online u phase.Waiting within online e zero decided knows unfinished = ready_waiting u within e decided
   after_zero_online u phase.OfflineWait within online e zero decided knows unfinished =
@@ -407,22 +439,27 @@ module _ (plan : Plan) (m : Running) (first : Bool) (stage : Stage) (sound : Sou
       held_or_lead u phase.SiblingWait (s.freed u) within (ap is_absent online) knows.0 e refl
       (λ told. sibling_counts plan u (m.locals u) m.words e told) (inl knows.1) refl
   after_zero_online u phase.Left within online e zero decided knows unfinished = finished u phase.Left e refl unfinished
-  after_zero_online u phase.Halted within online e zero decided knows unfinished = finished u phase.Halted e refl unfinished
+  after_zero_online u phase.Halted within online e zero decided knows unfinished =
+      finished u phase.Halted e refl unfinished
   after_zero_online u phase.OfflineCount within online e zero decided knows unfinished = absurd knows
   after_zero_online u phase.OfflineHold within online e zero decided knows unfinished = absurd knows
   after_zero_online u phase.Withdrawn within online e zero decided knows unfinished = absurd knows
   after_zero_online u phase.Nothing within online e zero decided knows unfinished = absurd knows
   after_zero_online u p within online e zero decided knows unfinished = ready u p within e refl
 
-  settled_by_zero : (u : ℕ) → plan.kind u ≡ Offline → (m.locals 0).phase ≡ phase.Left → is_timeout (m.locals 0).mine ≡ true → v.settles 0 u ≡ true
+  settled_by_zero :
+      (u : ℕ) → plan.kind u ≡ Offline → (m.locals 0).phase ≡ phase.Left → is_timeout (m.locals 0).mine ≡ true →
+      v.settles 0 u ≡ true
   unfolding views
   settled_by_zero u offline zero timeout =
-      and_both (is_offline (plan.kind u)) (settles_in (m.locals 0).phase (m.locals 0).at (m.locals 0).mine u) (ap is_offline offline)
+      and_both (is_offline (plan.kind u)) (settles_in (m.locals 0).phase (m.locals 0).at (m.locals 0).mine u)
+      (ap is_offline offline)
       (ap (λ p. settles_in p (m.locals 0).at (m.locals 0).mine u) zero ∙ timeout)
 
   -- after a go every Offline thread has come
   all_came : stage ≡ Going → (u : ℕ) → plan.kind u ≡ Offline → s.arrived u ≡ true
-  all_came going u offline = rule.gathered.zero_last (rule.gathered.go_after_all going 0 sound.thread_0_is_online) u offline
+  all_came going u offline = rule.gathered.zero_last (rule.gathered.go_after_all going 0 sound.thread_0_is_online) u
+      offline
 
   unarrived : (u : ℕ) {A : Type 0} → (m.locals u).phase ≡ phase.Outside → s.arrived u ≡ true → A
   unfolding views
@@ -430,25 +467,32 @@ module _ (plan : Plan) (m : Running) (first : Bool) (stage : Stage) (sound : Sou
 
   after_zero_offline : (u : ℕ) (p : Phase) →
       u < plan.threads → plan.kind u ≡ Offline → (m.locals u).phase ≡ p →
-      (stage ≡ Going ⊎ v.settles 0 u ≡ true) → OfflineKnows p u (m.locals u).mine s → is_unfinished (s.place u) ≡ true → Found plan m
-  after_zero_offline u phase.Outside within offline e (inl going) knows unfinished = unarrived u e (all_came going u offline)
+      (stage ≡ Going ⊎ v.settles 0 u ≡ true) → OfflineKnows p u (m.locals u).mine s →
+      is_unfinished (s.place u) ≡ true → Found plan m
+  after_zero_offline u phase.Outside within offline e (inl going) knows unfinished =
+      unarrived u e (all_came going u offline)
   after_zero_offline u phase.Outside within offline e (inr settled) knows unfinished =
       finished u phase.Outside e (ap (λ b. is_unfinished (place_seen Out b)) settled) unfinished
-  after_zero_offline u phase.OfflineCount within offline e why knows unfinished = ready u phase.OfflineCount within e refl
+  after_zero_offline u phase.OfflineCount within offline e why knows unfinished =
+      ready u phase.OfflineCount within e refl
   after_zero_offline u phase.OfflineHold within offline e why knows unfinished =
-      held_or_lead u phase.OfflineHold (s.freed u) within (ap is_absent offline) (offline_leads_not plan u sound padded offline) e refl
+      held_or_lead u phase.OfflineHold (s.freed u) within (ap is_absent offline)
+      (offline_leads_not plan u sound padded offline) e refl
       (λ told. held_counts plan u (m.locals u) m.words e told) why refl
   after_zero_offline u phase.Leaving within offline e why knows unfinished = ready u phase.Leaving within e refl
   after_zero_offline u phase.Left within offline e why knows unfinished = finished u phase.Left e refl unfinished
   after_zero_offline u phase.Halted within offline e why knows unfinished = finished u phase.Halted e refl unfinished
-  after_zero_offline u phase.Withdrawn within offline e why knows unfinished = no _ (ap is_unfinished knows.0) unfinished
+  after_zero_offline u phase.Withdrawn within offline e why knows unfinished =
+      no _ (ap is_unfinished knows.0) unfinished
   after_zero_offline u p within offline e why knows unfinished = absurd knows
 
   ends_decided : (b : Bool) → Ends b plan 0 (m.locals 0).mine s → decide_of stage ≢ 0
   ends_decided true ends = dropped_some stage ends
   ends_decided false ends = going_some stage ends.0
 
-  ends_why : (u : ℕ) (b : Bool) → plan.kind u ≡ Offline → (m.locals 0).phase ≡ phase.Left → is_timeout (m.locals 0).mine ≡ b →
+  ends_why :
+      (u : ℕ) (b : Bool) → plan.kind u ≡ Offline → (m.locals 0).phase ≡ phase.Left →
+      is_timeout (m.locals 0).mine ≡ b →
       Ends b plan 0 (m.locals 0).mine s → (stage ≡ Going ⊎ v.settles 0 u ≡ true)
   ends_why u true offline zero e ends = inr (settled_by_zero u offline zero e)
   ends_why u false offline zero e ends = inl ends.0
@@ -463,7 +507,8 @@ module _ (plan : Plan) (m : Running) (first : Bool) (stage : Stage) (sound : Sou
       after_zero_offline u (m.locals u).phase within k refl (ends_why u (is_timeout (m.locals 0).mine) k zero refl ends)
       (knows_offline u (m.locals u).phase k refl) unfinished
   after_zero u KindAbsent within k zero ends unfinished =
-      let nothing : (m.locals u).phase ≡ phase.Nothing = subst (λ kind. Knows kind plan u (m.locals u) s) k (rule.knows u) in
+      let nothing : (m.locals u).phase ≡ phase.Nothing =
+      subst (λ kind. Knows kind plan u (m.locals u) s) k (rule.knows u) in
       finished u phase.Nothing nothing refl unfinished
 
   -- By the phase of thread 0, which is the primary of its group.
@@ -506,10 +551,12 @@ module _ (plan : Plan) (m : Running) (first : Bool) (stage : Stage) (sound : Sou
   found_stands local found false false e f counts = no {A = found ≡ 1} _ (rw (e, f) refl) counts
 
   outside_unfinished : (t : ℕ) (kind : Kind) →
-      plan.kind t ≡ kind → (m.locals t).phase ≡ phase.Outside → Counts plan t (m.locals t) m.words → is_unfinished (s.place t) ≡ true
+      plan.kind t ≡ kind → (m.locals t).phase ≡ phase.Outside → Counts plan t (m.locals t) m.words →
+      is_unfinished (s.place t) ≡ true
   unfolding operation after views
   outside_unfinished t Online k e c =
-      let unsettled = and_false' (is_offline (plan.kind t)) (settles_in (m.locals 0).phase (m.locals 0).at (m.locals 0).mine t) (ap is_offline k) in
+      let unsettled = and_false' (is_offline (plan.kind t))
+      (settles_in (m.locals 0).phase (m.locals 0).at (m.locals 0).mine t) (ap is_offline k) in
       ap is_unfinished (place_at t phase.Outside e) ∙ ap (λ b. is_unfinished (place_seen Out b)) unsettled
     where
       and_false' : (a b : Bool) → a ≡ false → (a && b) ≡ false
@@ -524,10 +571,13 @@ module _ (plan : Plan) (m : Running) (first : Bool) (stage : Stage) (sound : Sou
       sym (ap (λ o. is_counted (after plan t l how.Step (m.words (touched o))).1) op
       ∙ (ap (λ p. is_counted (after_in plan t l how.Step (m.words (word.Nmi t)) p).1) e
       ∙ ap (λ kind. is_counted (after_outside kind plan t l how.Step (m.words (word.Nmi t))).1) k)) ∙ c.counts in
-      let one = found_stands l (m.words (word.Nmi t)) (m.words (word.Nmi t) == 1) (m.words (word.Nmi t) == 3) refl refl counts in
-      ap is_unfinished (stands_out (s.kicked t) (s.place t) (ap (λ kind. nmi_code kind (s.kicked t) (s.place t)) (sym k) ∙ (sym (nmi_word t) ∙ one)))
+      let one = found_stands l (m.words (word.Nmi t)) (m.words (word.Nmi t) == 1) (m.words (word.Nmi t) == 3) refl
+      refl counts in
+      ap is_unfinished (stands_out (s.kicked t) (s.place t)
+      (ap (λ kind. nmi_code kind (s.kicked t) (s.place t)) (sym k) ∙ (sym (nmi_word t) ∙ one)))
   outside_unfinished t KindAbsent k e c =
-      let nothing : (m.locals t).phase ≡ phase.Nothing = subst (λ kind. Knows kind plan t (m.locals t) s) k (rule.knows t) in
+      let nothing : (m.locals t).phase ≡ phase.Nothing =
+      subst (λ kind. Knows kind plan t (m.locals t) s) k (rule.knows t) in
       let same : phase.Outside ≡ phase.Nothing = sym e ∙ nothing in cc
 
   counts_unfinished_by : (t : ℕ) (p : Phase) →
@@ -550,7 +600,9 @@ module _ (plan : Plan) (m : Running) (first : Bool) (stage : Stage) (sound : Sou
 -- Of a moment.
 
 -- some thread is unfinished
-unfinished_one : (plan : Plan) (m : Running) → is_over plan m ≡ false → Fails (λ t. shows_finished plan m.words t) 0 (0 + (plan.threads - 0))
+unfinished_one :
+    (plan : Plan) (m : Running) → is_over plan m ≡ false →
+    Fails (λ t. shows_finished plan m.words t) 0 (0 + (plan.threads - 0))
 unfinished_one plan m goes_on = by (all_or_one (λ t. shows_finished plan m.words t) 0 (plan.threads - 0))
   where
     by : AllPass (λ t. shows_finished plan m.words t) 0 (0 + (plan.threads - 0))
@@ -559,7 +611,8 @@ unfinished_one plan m goes_on = by (all_or_one (λ t. shows_finished plan m.word
     by (inl all) = no _ goes_on (ap not (none_fails (λ t. shows_finished plan m.words t) 0 (plan.threads - 0) all))
     by (inr one) = one
 
-pub found_ready : (plan : Plan) (m : Running) → Sound plan → Padded plan → Ruled plan m → is_over plan m ≡ false → Found plan m
+pub found_ready :
+    (plan : Plan) (m : Running) → Sound plan → Padded plan → Ruled plan m → is_over plan m ≡ false → Found plan m
 found_ready plan m sound padded ruled goes_on =
     let one = unfinished_one plan m goes_on in
     let high : one.at < 0 + (plan.threads - 0) = one.high in
@@ -567,11 +620,14 @@ found_ready plan m sound padded ruled goes_on =
     ap is_unfinished (sym (place_is plan m ruled.first ruled.stage sound padded ruled.by one.at))
     ∙ (unfinished_is plan m one.at ∙ ap not one.fails) in
     by_zero plan m ruled.first ruled.stage sound padded ruled.by (m.locals 0).phase one.at refl
-    (knows_online plan m ruled.first ruled.stage sound padded ruled.by 0 (m.locals 0).phase sound.thread_0_is_online refl)
+    (knows_online plan m ruled.first ruled.stage sound padded ruled.by 0 (m.locals 0).phase sound.thread_0_is_online
+    refl)
     (omega arith) unfinished
 
 -- what counts by the thread's state and the words is the item of its step
-pub counts_here : (plan : Plan) (m : Running) (t : ℕ) → Counts plan t (m.locals t) m.words → is_counted (happens plan (event.Step t) m).1 ≡ true
+pub counts_here :
+    (plan : Plan) (m : Running) (t : ℕ) → Counts plan t (m.locals t) m.words →
+    is_counted (happens plan (event.Step t) m).1 ≡ true
 unfolding happens
 counts_here plan m t c = ap (λ op. is_counted (performs plan t how.Step m op).1) c.has ∙ c.counts
 

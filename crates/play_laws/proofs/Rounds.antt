@@ -38,7 +38,9 @@ use Rattle.play_laws.proofs.Ready.{found_ready, counts_here}
 
 -- An item that does not count changes no word.
 
-words_same : (plan : Plan) (t : ℕ) (s : State) (item : What) → is_counted item ≡ false → words_of plan (change plan t item s) ≡ words_of plan s
+words_same :
+    (plan : Plan) (t : ℕ) (s : State) (item : What) → is_counted item ≡ false →
+    words_of plan (change plan t item s) ≡ words_of plan s
 unfolding words_of
 words_same plan t s what.Poll e = refl
 words_same plan t s what.Idle e = refl
@@ -47,11 +49,14 @@ words_same plan t s what.Latched e = refl
 words_same plan t s item e = cc
 
 -- the words are those of the state that they show
-shown_words : (plan : Plan) (m : Running) → Sound plan → Padded plan → Ruled plan m → families m.words ≡ words_of plan (shown_by plan m)
+shown_words :
+    (plan : Plan) (m : Running) → Sound plan → Padded plan → Ruled plan m →
+    families m.words ≡ words_of plan (shown_by plan m)
 unfolding words_of
 shown_words plan m sound padded ruled =
     ruled.by.says
-    ∙ sym (ap (words_of plan) (shown_is_seen plan (families m.words) m.locals ruled.first ruled.stage m.latched sound padded ruled.by))
+    ∙ sym (ap (words_of plan) (shown_is_seen plan (families m.words) m.locals ruled.first ruled.stage m.latched
+    sound padded ruled.by))
 
 each_word : (a b : Word → ℕ) → families a ≡ families b → (w : Word) → a w ≡ b w
 each_word a b e word.Arrive = ap (λ (f : Families). f.arrive) e
@@ -72,34 +77,43 @@ uncounted_words plan event m sound padded lawful led e =
     let s = shown_by plan m in
     let same : families after.0.words ≡ families m.words =
     shown_words plan after.0 sound padded led.lawful.ruled
-    ∙ (ap (words_of plan) (changed plan (thread_of event) (cause_of s event) s after.1 (shown_by plan after.0) led.round)
+    ∙ (ap (words_of plan) (changed plan (thread_of event) (cause_of s event) s after.1 (shown_by plan after.0)
+    led.round)
     ∙ (words_same plan (thread_of event) s after.1 e
     ∙ sym (shown_words plan m sound padded lawful.ruled))) in
     fun_ext (each_word after.0.words m.words same)
 
 -- Ranks do not rise.
 
-ranks_kept : (plan : Plan) (event : Event) (m : Running) → all_ranks plan (happens plan event m).0.locals ≤ all_ranks plan m.locals
+ranks_kept :
+    (plan : Plan) (event : Event) (m : Running) →
+    all_ranks plan (happens plan event m).0.locals ≤ all_ranks plan m.locals
 unfolding all_ranks
 ranks_kept plan event m =
-    sum_le (λ u. rank true plan u ((happens plan event m).0.locals u)) (λ u. rank true plan u (m.locals u)) 0 (plan.threads - 0)
+    sum_le (λ u. rank true plan u ((happens plan event m).0.locals u)) (λ u. rank true plan u (m.locals u)) 0
+    (plan.threads - 0)
     (rank_kept true plan (thread_of event) m (happens plan event m) (ranks_fall true plan event m))
 
 kept_by :
     (plan : Plan) (m : Running) (event : Event) (events : List Event) (over : Bool) →
     is_over plan m ≡ over →
-    all_ranks plan (last_moment plan (happens plan event m).0 events).locals ≤ all_ranks plan (happens plan event m).0.locals →
+    all_ranks plan (last_moment plan (happens plan event m).0 events).locals ≤ all_ranks plan
+    (happens plan event m).0.locals →
     all_ranks plan (last_moment plan m (event ∷ events)).locals ≤ all_ranks plan m.locals
 kept_by plan m event events true e rest = rw e (omega arith)
 kept_by plan m event events false e rest = let here = ranks_kept plan event m in rw e (omega arith)
 
-ranks_last : (plan : Plan) (m : Running) (events : List Event) → all_ranks plan (last_moment plan m events).locals ≤ all_ranks plan m.locals
+ranks_last :
+    (plan : Plan) (m : Running) (events : List Event) →
+    all_ranks plan (last_moment plan m events).locals ≤ all_ranks plan m.locals
 ranks_last plan m [] = omega arith
-ranks_last plan m (event ∷ events) = kept_by plan m event events (is_over plan m) refl (ranks_last plan (happens plan event m).0 events)
+ranks_last plan m (event ∷ events) = kept_by plan m event events (is_over plan m) refl
+    (ranks_last plan (happens plan event m).0 events)
 
 module _ (law : EventLaw) (plan : Plan) (sound : Sound plan) (padded : Padded plan) where
   pub lawful_last : (m : Running) (events : List Event) → Lawful plan m → Lawful plan (last_moment plan m events)
-  lawful_last m events lawful = subst (Lawful plan) (sym (last_moment_is plan m events)) (lawful_at law plan sound padded m events _ lawful)
+  lawful_last m events lawful = subst (Lawful plan) (sym (last_moment_is plan m events))
+      (lawful_at law plan sound padded m events _ lawful)
 
   -- steps of the threads from a on
   abbrev steps_from : ℕ → ℕ → List Event
@@ -116,30 +130,37 @@ module _ (law : EventLaw) (plan : Plan) (sound : Sound plan) (padded : Padded pl
       a < plan.threads → is_over plan m ≡ false → is_counted (happens plan (event.Step a) m).1 ≡ counted →
       (counted ≡ false →
       Over (last_moment plan (happens plan (event.Step a) m).0 (steps_from (a + 1) n))
-      ⊎ Fell (happens plan (event.Step a) m).0 (last_moment plan (happens plan (event.Step a) m).0 (steps_from (a + 1) n))) →
+      ⊎ Fell (happens plan (event.Step a) m).0
+      (last_moment plan (happens plan (event.Step a) m).0 (steps_from (a + 1) n))) →
       Over (last_moment plan m (steps_from a (suc n))) ⊎ Fell m (last_moment plan m (steps_from a (suc n)))
   first_step m a n true within goes_on counted rest =
       let falls = all_ranks_fall plan (event.Step a) m within in
       let one : 1 ≤ (if is_counted (happens plan (event.Step a) m).1 then 1 else 0) = rw counted (omega arith) in
       let kept = ranks_last plan (happens plan (event.Step a) m).0 (steps_from (a + 1) n) in
-      let next = ap (λ (x : Running). all_ranks plan x.locals) (last_moment_next plan m (event.Step a) (steps_from (a + 1) n) goes_on) in
+      let next = ap (λ (x : Running). all_ranks plan x.locals)
+      (last_moment_next plan m (event.Step a) (steps_from (a + 1) n) goes_on) in
       inr (omega arith)
   first_step m a n false within goes_on counted rest = by (rest refl)
     where
       by : Over (last_moment plan (happens plan (event.Step a) m).0 (steps_from (a + 1) n))
-          ⊎ Fell (happens plan (event.Step a) m).0 (last_moment plan (happens plan (event.Step a) m).0 (steps_from (a + 1) n)) →
+          ⊎ Fell (happens plan (event.Step a) m).0
+          (last_moment plan (happens plan (event.Step a) m).0 (steps_from (a + 1) n)) →
           Over (last_moment plan m (steps_from a (suc n))) ⊎ Fell m (last_moment plan m (steps_from a (suc n)))
-      by (inl over) = inl (ap (is_over plan) (last_moment_next plan m (event.Step a) (steps_from (a + 1) n) goes_on) ∙ over)
+      by (inl over) = inl (ap (is_over plan) (last_moment_next plan m (event.Step a) (steps_from (a + 1) n) goes_on)
+          ∙ over)
       by (inr fell) =
           let here = ranks_kept plan (event.Step a) m in
-          let next = ap (λ (x : Running). all_ranks plan x.locals) (last_moment_next plan m (event.Step a) (steps_from (a + 1) n) goes_on) in
+          let next = ap (λ (x : Running). all_ranks plan x.locals)
+          (last_moment_next plan m (event.Step a) (steps_from (a + 1) n) goes_on) in
           inr (omega arith)
 
   -- a thread whose step counts comes to it, or something counted before
   round_by : (m : Running) (t a n : ℕ) →
-      Lawful plan m → Counts plan t (m.locals t) m.words → a ≤ t → t < a + n → a + n ≤ plan.threads → (over : Bool) → is_over plan m ≡ over →
+      Lawful plan m → Counts plan t (m.locals t) m.words → a ≤ t → t < a + n → a + n ≤ plan.threads →
+      (over : Bool) → is_over plan m ≡ over →
       Over (last_moment plan m (steps_from a n)) ⊎ Fell m (last_moment plan m (steps_from a n))
-  round_by m t a n lawful counts low high ends true over = inl (ap (is_over plan) (last_moment_over plan m (steps_from a n) over) ∙ over)
+  round_by m t a n lawful counts low high ends true over =
+      inl (ap (is_over plan) (last_moment_over plan m (steps_from a n) over) ∙ over)
   round_by m t a zero lawful counts low high ends false over = absurd (omega arith)
   round_by m t a (suc n) lawful counts low high ends false over =
       let after = happens plan (event.Step a) m in
@@ -148,23 +169,28 @@ module _ (law : EventLaw) (plan : Plan) (sound : Sound plan) (padded : Padded pl
       (λ uncounted.
       elim (same_or_not t a) [
         | inl e ↦
-            absurd (true≢false (sym (ap (λ u. is_counted (happens plan (event.Step u) m).1) (sym e) ∙ counts_here plan m t counts) ∙ uncounted))
+            absurd (true≢false (sym (ap (λ u. is_counted (happens plan (event.Step u) m).1) (sym e)
+            ∙ counts_here plan m t counts) ∙ uncounted))
         | inr other ↦
             let words = uncounted_words plan (event.Step a) m sound padded lawful led uncounted in
             let local = (ranks_fall true plan (event.Step a) m).others t other in
             round_by after.0 t (a + 1) n led.lawful
-            (subst (λ l. Counts plan t l after.0.words) (sym local) (subst (λ w. Counts plan t (m.locals t) w) (sym words) counts))
+            (subst (λ l. Counts plan t l after.0.words) (sym local)
+            (subst (λ w. Counts plan t (m.locals t) w) (sym words) counts))
             (omega arith) (omega arith) (omega arith) (is_over plan after.0) refl
       ])
 
   -- in a round something counts, or it is over
   round_falls : (m : Running) → Lawful plan m → (over : Bool) → is_over plan m ≡ over →
-      Over (last_moment plan m (steps_from 0 (plan.threads - 0))) ⊎ Fell m (last_moment plan m (steps_from 0 (plan.threads - 0)))
-  round_falls m lawful true over = inl (ap (is_over plan) (last_moment_over plan m (steps_from 0 (plan.threads - 0)) over) ∙ over)
+      Over (last_moment plan m (steps_from 0 (plan.threads - 0))) ⊎ Fell m
+      (last_moment plan m (steps_from 0 (plan.threads - 0)))
+  round_falls m lawful true over = inl (ap (is_over plan)
+      (last_moment_over plan m (steps_from 0 (plan.threads - 0)) over) ∙ over)
   round_falls m lawful false over =
       let found = found_ready plan m sound padded lawful.ruled over in
       let within = found.in_range in
-      round_by m found.thread 0 (plan.threads - 0) lawful found.counts (omega arith) (omega arith) (omega arith) false over
+      round_by m found.thread 0 (plan.threads - 0) lawful found.counts (omega arith) (omega arith) (omega arith)
+      false over
 
   -- where nothing is left to count, it is over
   none_left : (m : Running) (over : Bool) → Lawful plan m → all_ranks plan m.locals ≤ 0 → is_over plan m ≡ over → Over m
@@ -173,7 +199,8 @@ module _ (law : EventLaw) (plan : Plan) (sound : Sound plan) (padded : Padded pl
       let found = found_ready plan m sound padded lawful.ruled e in
       let falls = all_ranks_fall plan (event.Step found.thread) m found.in_range in
       let counted = counts_here plan m found.thread found.counts in
-      let one : 1 ≤ (if is_counted (happens plan (event.Step found.thread) m).1 then 1 else 0) = rw counted (omega arith) in
+      let one : 1 ≤ (if is_counted (happens plan (event.Step found.thread) m).1 then 1 else 0) =
+      rw counted (omega arith) in
       absurd (omega arith)
 
   -- once it is over it stays so
@@ -186,8 +213,10 @@ module _ (law : EventLaw) (plan : Plan) (sound : Sound plan) (padded : Padded pl
   one_by m happened events false e rest = ap (is_over plan) (last_moment_next plan m happened events e) ∙ rest
 
   round_then : (m : Running) (rest : List Event) →
-      Over (last_moment plan m (steps_from 0 (plan.threads - 0))) ⊎ Fell m (last_moment plan m (steps_from 0 (plan.threads - 0))) →
-      (Fell m (last_moment plan m (steps_from 0 (plan.threads - 0))) → Over (last_moment plan (last_moment plan m (steps_from 0 (plan.threads - 0))) rest)) →
+      Over (last_moment plan m (steps_from 0 (plan.threads - 0))) ⊎ Fell m
+      (last_moment plan m (steps_from 0 (plan.threads - 0))) →
+      (Fell m (last_moment plan m (steps_from 0 (plan.threads - 0))) → Over
+      (last_moment plan (last_moment plan m (steps_from 0 (plan.threads - 0))) rest)) →
       Over (last_moment plan m (steps_from 0 (plan.threads - 0) ++ rest))
   round_then m rest (inl over) later =
       ap (is_over plan) (last_moment_append plan m (steps_from 0 (plan.threads - 0)) rest)
@@ -218,4 +247,5 @@ module _ (law : EventLaw) (plan : Plan) (sound : Sound plan) (padded : Padded pl
 pub enough_rounds : EnoughRounds
 enough_rounds plan beats sound padded enough =
     let first = first_ranks plan in
-    enough_from event_law plan sound padded beats (opening_running plan) (opening_lawful plan sound padded) (omega arith)
+    enough_from event_law plan sound padded beats (opening_running plan) (opening_lawful plan sound padded)
+    (omega arith)

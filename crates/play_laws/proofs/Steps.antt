@@ -40,7 +40,8 @@ rests :
     (plan : Plan) (moment : Running) (t : ℕ) (cause : Cause) (latch : Bool) →
     Sound plan → Padded plan → Lawful plan moment →
     is_own cause ≡ true → cause ≢ Nmi → is_last (moment.locals t).phase ≡ true →
-    left_with_latch t moment ≡ latch → LedBy plan t cause moment (if latch then runs_ordinary t moment else idles moment)
+    left_with_latch t moment ≡ latch →
+    LedBy plan t cause moment (if latch then runs_ordinary t moment else idles moment)
 rests plan moment t cause true sound padded lawful own not_nmi last e =
     let left = (told plan moment t sound padded lawful.ruled).left in
     ordinary_led plan t cause moment lawful
@@ -54,7 +55,8 @@ rests plan moment t cause false sound padded lawful own not_nmi last e =
 rests_how :
     (plan : Plan) (moment : Running) (t : ℕ) (h : How) →
     Sound plan → Padded plan → Lawful plan moment →
-    is_step h ≡ true → operation plan t (moment.locals t) h ≡ None → LedBy plan t (cause_how h) moment (performs plan t h moment None)
+    is_step h ≡ true → operation plan t (moment.locals t) h ≡ None →
+    LedBy plan t (cause_how h) moment (performs plan t h moment None)
 rests_how plan moment t how.Step sound padded lawful own none =
     rests plan moment t Step (left_with_latch t moment) sound padded lawful refl (λ e. cc)
     (no_operation plan t (moment.locals t) how.Step none) refl
@@ -68,8 +70,10 @@ rests_how plan moment t how.Nmi sound padded lawful own none = cc
 kept_led :
     (plan : Plan) (moment : Running) (t : ℕ) (h : How) →
     Lawful plan moment →
-    is_step h ≡ true → Kept plan (event_of h t) moment (steps plan t h moment) → LedBy plan t (cause_how h) moment (steps plan t h moment)
-kept_led plan moment t how.Step lawful own kept = led_by plan t Step moment (steps plan t how.Step moment) lawful kept.rule kept.round
+    is_step h ≡ true → Kept plan (event_of h t) moment (steps plan t h moment) →
+    LedBy plan t (cause_how h) moment (steps plan t h moment)
+kept_led plan moment t how.Step lawful own kept =
+    led_by plan t Step moment (steps plan t how.Step moment) lawful kept.rule kept.round
 kept_led plan moment t how.Timeout lawful own kept =
     led_by plan t Timeout moment (steps plan t how.Timeout moment) lawful kept.rule kept.round
 kept_led plan moment t how.Nmi lawful own kept = cc
@@ -77,7 +81,8 @@ kept_led plan moment t how.Nmi lawful own kept = cc
 steps_by :
     (plan : Plan) (moment : Running) (t : ℕ) (h : How) (op : Option Op) →
     Sound plan → Padded plan → Lawful plan moment →
-    is_step h ≡ true → operation plan t (moment.locals t) h ≡ op → LedBy plan t (cause_how h) moment (steps plan t h moment)
+    is_step h ≡ true → operation plan t (moment.locals t) h ≡ op →
+    LedBy plan t (cause_how h) moment (steps plan t h moment)
 steps_by plan moment t h (Some op) sound padded lawful own e =
     kept_led plan moment t h lawful own (moment_step plan moment t h op sound padded lawful.ruled own e)
 steps_by plan moment t h None sound padded lawful own e =
@@ -100,7 +105,8 @@ kick t = Cas (word.Nmi t) 1 2
 kick_steps :
     (plan : Plan) (moment : Running) (t : ℕ) (h : How) (next : Local × What) →
     plan.kind t ≡ Offline → (moment.locals t).phase ≡ phase.Outside →
-    after_kick (at_phase phase.Outside (moment.locals t).at (moment.locals t).polls (moment.locals t).mine) h (moment.words (word.Nmi t)) ≡ next →
+    after_kick (at_phase phase.Outside (moment.locals t).at (moment.locals t).polls (moment.locals t).mine) h
+    (moment.words (word.Nmi t)) ≡ next →
     steps plan t h moment ≡ moved moment t (kick t) next
 unfolding operation after
 kick_steps plan moment t h next offline outside e =
@@ -112,13 +118,16 @@ kick_steps plan moment t h next offline outside e =
 
 kick_operation :
     (plan : Plan) (moment : Running) (t : ℕ) (h : How) →
-    plan.kind t ≡ Offline → (moment.locals t).phase ≡ phase.Outside → operation plan t (moment.locals t) h ≡ Some (kick t)
+    plan.kind t ≡ Offline → (moment.locals t).phase ≡ phase.Outside →
+    operation plan t (moment.locals t) h ≡ Some (kick t)
 unfolding operation
 kick_operation plan moment t h offline outside =
-    ap (λ l. operation plan t l h) (is_at (moment.locals t) phase.Outside outside) ∙ ap (λ kind. Some (enter_operation kind t)) offline
+    ap (λ l. operation plan t l h) (is_at (moment.locals t) phase.Outside outside)
+    ∙ ap (λ kind. Some (enter_operation kind t)) offline
 
 -- it does not wait for anything else than its kick
-waits_for_kick : (plan : Plan) (t : ℕ) (s : State) → s.place t ≢ In → MayWait plan t s → (s.place t ≡ Out) × (s.kicked t ≡ false)
+waits_for_kick :
+    (plan : Plan) (t : ℕ) (s : State) → s.place t ≢ In → MayWait plan t s → (s.place t ≡ Out) × (s.kicked t ≡ false)
 waits_for_kick plan t s outside (for_kick w) = (w.is_out, w.not_kicked)
 waits_for_kick plan t s outside (for_offline w) = absurd (outside w.is_in)
 waits_for_kick plan t s outside (for_decision w) = absurd (outside w.is_in)
@@ -135,12 +144,14 @@ not_come s t calm out = not_so (s.latched t) (λ on. true≢false (sym (calm t o
 -- an NMI comes through outside
 free_withdrawn :
     (kind : Kind) (place : Place) (kicked latched : Bool) →
-    kind ≡ Offline → place ≡ Withdrawn → (is_free_to_run kind Nmi place kicked || comes_through Nmi place latched) ≡ true
+    kind ≡ Offline → place ≡ Withdrawn →
+    (is_free_to_run kind Nmi place kicked || comes_through Nmi place latched) ≡ true
 free_withdrawn kind place kicked latched offline withdrawn = rw (offline, withdrawn) refl
 
 free_unkicked :
     (kind : Kind) (place : Place) (kicked latched : Bool) →
-    kind ≡ Offline → place ≡ Out → kicked ≡ false → (is_free_to_run kind Nmi place kicked || comes_through Nmi place latched) ≡ true
+    kind ≡ Offline → place ≡ Out → kicked ≡ false →
+    (is_free_to_run kind Nmi place kicked || comes_through Nmi place latched) ≡ true
 free_unkicked kind place kicked latched offline out unkicked = rw (offline, out, unkicked) refl
 
 -- the found kick, by its two tests
@@ -157,7 +168,8 @@ found_by plan moment t true gone sound padded lawful offline outside one three =
     let kept : Kept plan (event_of how.Step t) moment (moved moment t (kick t) next) =
     subst (λ x. Kept plan (event_of how.Step t) moment x)
     (kick_steps plan moment t how.Step next offline outside (rw one refl))
-    (moment_step plan moment t how.Step (kick t) sound padded lawful.ruled refl (kick_operation plan moment t how.Step offline outside)) in
+    (moment_step plan moment t how.Step (kick t) sound padded lawful.ruled refl
+    (kick_operation plan moment t how.Step offline outside)) in
     let kicked : may_enter Offline Step ((shown_by plan moment).kicked t) ≡ true =
     ap (λ kind. may_enter kind Step ((shown_by plan moment).kicked t)) (sym offline) ∙ kept.round.may in
     subst (λ x. LedBy plan t Nmi moment x) (sym (kick_steps plan moment t how.Nmi next offline outside (rw one refl)))
@@ -176,12 +188,14 @@ found_by plan moment t false true sound padded lawful offline outside one three 
     let kept : Kept plan (event_of how.Step t) moment (moved moment t (kick t) idle) =
     subst (λ x. Kept plan (event_of how.Step t) moment x)
     (kick_steps plan moment t how.Step idle offline outside (rw (one, three) refl))
-    (moment_step plan moment t how.Step (kick t) sound padded lawful.ruled refl (kick_operation plan moment t how.Step offline outside)) in
+    (moment_step plan moment t how.Step (kick t) sound padded lawful.ruled refl
+    (kick_operation plan moment t how.Step offline outside)) in
     let gone : is_withdrawn (s.place t) ≡ true =
     sym (told plan moment t sound padded lawful.ruled).withdrawn
     ∙ rw (offline, three) refl in
     let place : s.place t ≡ Withdrawn = withdrawn_by (s.place t) gone in
-    subst (λ x. LedBy plan t Nmi moment x) (sym (kick_steps plan moment t how.Nmi next offline outside (rw (one, three) refl)))
+    subst (λ x. LedBy plan t Nmi moment x) (sym
+    (kick_steps plan moment t how.Nmi next offline outside (rw (one, three) refl)))
     (led_by plan t Nmi moment (moved moment t (kick t) next) lawful kept.rule
     (record {
       may = free_withdrawn (plan.kind t) (s.place t) (s.kicked t) (moment.latched t) offline place;
@@ -204,9 +218,12 @@ found_by plan moment t false false sound padded lawful offline outside one three
     let kept : Kept plan (event_of how.Step t) moment (moved moment t (kick t) poll) =
     subst (λ x. Kept plan (event_of how.Step t) moment x)
     (kick_steps plan moment t how.Step poll offline outside (rw (one, three) refl))
-    (moment_step plan moment t how.Step (kick t) sound padded lawful.ruled refl (kick_operation plan moment t how.Step offline outside)) in
-    let waits = waits_for_kick plan t s (outside_is_not_in plan moment t sound padded lawful.ruled outside) kept.round.1.may in
-    subst (λ x. LedBy plan t Nmi moment x) (sym (kick_steps plan moment t how.Nmi next offline outside (rw (one, three) refl)))
+    (moment_step plan moment t how.Step (kick t) sound padded lawful.ruled refl
+    (kick_operation plan moment t how.Step offline outside)) in
+    let waits = waits_for_kick plan t s (outside_is_not_in plan moment t sound padded lawful.ruled outside)
+    kept.round.1.may in
+    subst (λ x. LedBy plan t Nmi moment x) (sym
+    (kick_steps plan moment t how.Nmi next offline outside (rw (one, three) refl)))
     (led_by plan t Nmi moment (moved moment t (kick t) next) lawful kept.rule
     (record {
       may = free_unkicked (plan.kind t) (s.place t) (s.kicked t) (moment.latched t) offline waits.0 waits.1;
@@ -216,6 +233,8 @@ found_by plan moment t false false sound padded lawful offline outside one three
 pub nmi_outside_led :
     (plan : Plan) (moment : Running) (t : ℕ) →
     Sound plan → Padded plan → Lawful plan moment →
-    plan.kind t ≡ Offline → (moment.locals t).phase ≡ phase.Outside → LedBy plan t Nmi moment (steps plan t how.Nmi moment)
+    plan.kind t ≡ Offline → (moment.locals t).phase ≡ phase.Outside →
+    LedBy plan t Nmi moment (steps plan t how.Nmi moment)
 nmi_outside_led plan moment t sound padded lawful offline outside =
-    found_by plan moment t (moment.words (word.Nmi t) == 1) (moment.words (word.Nmi t) == 3) sound padded lawful offline outside refl refl
+    found_by plan moment t (moment.words (word.Nmi t) == 1) (moment.words (word.Nmi t) == 3) sound padded lawful
+    offline outside refl refl

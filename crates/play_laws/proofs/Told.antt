@@ -90,7 +90,8 @@ offline_told (Left x) writes freed true group a b c =
 offline_told (Left x) writes freed false group a b c =
     record { halted = not_halted freed group; left = left_number (number_of x); withdrawn = refl; held = refl }
 offline_told Halted writes freed true group a b c = record { halted = refl; left = refl; withdrawn = refl; held = refl }
-offline_told Halted writes freed false group a b c = record { halted = refl; left = refl; withdrawn = refl; held = refl }
+offline_told Halted writes freed false group a b c =
+    record { halted = refl; left = refl; withdrawn = refl; held = refl }
 offline_told Withdrawn writes freed true group a b c =
     record { halted = not_halted freed group; left = refl; withdrawn = refl; held = refl }
 offline_told Withdrawn writes freed false group a b c = absurd (c refl refl)
@@ -98,12 +99,19 @@ offline_told Absent writes freed kicked group a b c = absurd (a refl)
 
 absent_told :
     (writes freed kicked : Bool) (group : GroupPlace) →
-    ToldBy KindAbsent Absent (mode_code KindAbsent writes Absent) (ctrl_code Absent freed group) (nmi_code KindAbsent kicked Absent)
-absent_told writes freed kicked group = record { halted = not_halted freed group; left = refl; withdrawn = refl; held = refl }
+    ToldBy KindAbsent Absent (mode_code KindAbsent writes Absent) (ctrl_code Absent freed group)
+    (nmi_code KindAbsent kicked Absent)
+absent_told writes freed kicked group = record {
+  halted = not_halted freed group;
+  left = refl;
+  withdrawn = refl;
+  held = refl;
+}
 
 -- Where a thread of a kind can be, by its words.
 
-online_place : (mode ctrl nmi : ℕ) → (place_of Online mode ctrl nmi ≢ Withdrawn) × (place_of Online mode ctrl nmi ≢ Absent)
+online_place :
+    (mode ctrl nmi : ℕ) → (place_of Online mode ctrl nmi ≢ Withdrawn) × (place_of Online mode ctrl nmi ≢ Absent)
 online_place mode ctrl nmi = places (ctrl == 3) (nat_le 8 mode) ((mode == 1) || (mode == 2)) (result_of (mode - 8))
   where
     places : (a b c : Bool) (x : ThreadResult) →
@@ -129,7 +137,8 @@ unkicked_place : (mode ctrl : ℕ) → (place_of Offline mode ctrl 0 ≢ In) × 
 unkicked_place mode ctrl = places (ctrl == 3) (nat_le 8 mode) (result_of (mode - 8))
   where
     places : (a b : Bool) (x : ThreadResult) →
-        ((if a then Halted else if b then Left x else Out) ≢ In) × ((if a then Halted else if b then Left x else Out) ≢ Withdrawn)
+        ((if a then Halted else if b then Left x else Out) ≢ In) ×
+        ((if a then Halted else if b then Left x else Out) ≢ Withdrawn)
     places true b x = (λ e. cc, λ e. cc)
     places false true x = (λ e. cc, λ e. cc)
     places false false x = (λ e. cc, λ e. cc)
@@ -140,7 +149,8 @@ told_by :
     (kind ≡ KindAbsent → place ≡ Absent) →
     ToldBy kind place (mode_code kind writes place) (ctrl_code place freed group) (nmi_code kind kicked place)
 told_by Online place writes freed kicked group e absent =
-    let where_ = online_place (mode_code Online writes place) (ctrl_code place freed group) (nmi_code Online kicked place) in
+    let where_ = online_place (mode_code Online writes place) (ctrl_code place freed group)
+    (nmi_code Online kicked place) in
     online_told place writes freed kicked group (λ f. where_.0 (sym e ∙ f)) (λ f. where_.1 (sym e ∙ f))
 told_by Offline place writes freed kicked group e absent =
     let mode = mode_code Offline writes place in
@@ -152,7 +162,8 @@ told_by Offline place writes freed kicked group e absent =
     (λ f g. (unkicked_place mode ctrl).0 (sym (unkicked f) ∙ g))
     (λ f g. (unkicked_place mode ctrl).1 (sym (unkicked f) ∙ g))
 told_by KindAbsent place writes freed kicked group e absent =
-    subst (λ p. ToldBy KindAbsent p (mode_code KindAbsent writes p) (ctrl_code p freed group) (nmi_code KindAbsent kicked p))
+    subst (λ p. ToldBy KindAbsent p (mode_code KindAbsent writes p) (ctrl_code p freed group)
+    (nmi_code KindAbsent kicked p))
     (sym (absent refl)) (absent_told writes freed kicked group)
 
 -- Of a moment.
@@ -163,7 +174,8 @@ pub place_is :
     Sound plan → Padded plan → RuleBy plan (families moment.words) moment.locals first stage →
     (t : ℕ) → (shown_by plan moment).place t ≡ (seen plan (views plan first moment.locals) stage nobody).place t
 place_is plan moment first stage sound padded rule t =
-    ap (λ (s : State). s.place t) (shown_is_seen plan (families moment.words) moment.locals first stage moment.latched sound padded rule)
+    ap (λ (s : State). s.place t) (shown_is_seen plan (families moment.words) moment.locals first stage
+    moment.latched sound padded rule)
 
 -- what the words tell of a thread, and the place that they show
 pub record Told (plan : Plan) (t : ℕ) (moment : Running) (place : Place) : Type 0 where
@@ -180,7 +192,8 @@ absent_place :
 unfolding views
 absent_place plan moment first stage t rule absent =
     let s = seen plan (views plan first moment.locals) stage nobody in
-    let nothing : (moment.locals t).phase ≡ phase.Nothing = subst (λ kind. Knows kind plan t (moment.locals t) s) absent (rule.knows t) in
+    let nothing : (moment.locals t).phase ≡ phase.Nothing =
+    subst (λ kind. Knows kind plan t (moment.locals t) s) absent (rule.knows t) in
     ap (λ p. place_seen (place_in p (moment.locals t).mine) ((views plan first moment.locals).settles 0 t)) nothing
 
 pub told :
@@ -197,7 +210,8 @@ told plan moment t sound padded ruled =
     let place : s.place t ≡ place_of (plan.kind t) (mode_code (plan.kind t) (writes_now plan t s.group) (s.place t))
     (ctrl_code (s.place t) (s.freed t) (s.group (plan.group t))) (nmi_code (plan.kind t) (s.kicked t) (s.place t)) =
     sym shown ∙ ap (λ (w : Families). place_of (plan.kind t) (w.mode t) (w.ctrl t) (w.nmi t)) rule.says in
-    let by = told_by (plan.kind t) (s.place t) (writes_now plan t s.group) (s.freed t) (s.kicked t) (s.group (plan.group t)) place
+    let by = told_by (plan.kind t) (s.place t) (writes_now plan t s.group) (s.freed t) (s.kicked t)
+    (s.group (plan.group t)) place
     (absent_place plan moment ruled.first ruled.stage t rule) in
     record {
       halted = ap (λ n. n == 3) ctrl ∙ by.halted ∙ ap is_halted (sym shown);

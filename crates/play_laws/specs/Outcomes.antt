@@ -24,8 +24,8 @@ PlaysAreListed =
     OutcomeShows plan outcome (shown_by plan (last_moment plan (opening_running plan) (events_of plan beats))) →
     Listed line plan beats text outcome
 
--- Where each thread has come to its last phase, the outcome is one that a run may have. One that is not late has decided
--- to go on, and none has halted in it.
+-- Where each thread has come to its last phase, the outcome is one that a run may have. One that is not late has
+-- decided to go on, and none has halted in it.
 abbrev pub EndedLaw : Type 0
 EndedLaw =
     (plan : Plan) (moment : Running) (outcome : Outcome) (late : Bool) →

@@ -6,8 +6,8 @@ ghost use Rattle.rendezvous_rule.specs.Runs.{AlwaysRuns, RanGrows};
 ghost use Rattle.play_laws.specs.Runs.{RunsHold, MomentsAreLawful};
 ghost use Rattle.play_laws.specs.Outcomes.{PlaysAreListed};
 
-/// The items of every list of events are those of a run of the model, through the states that are shown. Each of these is
-/// safe, no ordinary code runs in a group while it is written, no revision falls, and few items count.
+/// The items of every list of events are those of a run of the model, through the states that are shown. Each of these
+/// is safe, no ordinary code runs in a group while it is written, no revision falls, and few items count.
 pub fn each_run_holds()
     ensures moments { MomentsAreLawful }
     ensures runs { RunsHold }

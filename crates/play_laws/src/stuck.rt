@@ -2,8 +2,8 @@
 
 ghost use Rattle.play_laws.specs.Stuck.{NeverStuck, EnoughRounds};
 
-/// Where the rule between steps holds and some thread is unfinished, some unfinished thread's own step is none that waits,
-/// idles or runs ordinary code, whether or not another thread has halted.
+/// Where the rule between steps holds and some thread is unfinished, some unfinished thread's own step is none that
+/// waits, idles or runs ordinary code, whether or not another thread has halted.
 pub fn some_thread_is_ready()
     ensures { NeverStuck }
 {}

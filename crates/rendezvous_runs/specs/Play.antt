@@ -1,5 +1,5 @@
--- What a list of events comes to, from any moment on: the items, one for each event, and the moments between them. Once no
--- thread is unfinished the rendezvous is over, and no further event does anything.
+-- What a list of events comes to, from any moment on: the items, one for each event, and the moments between them. Once
+-- no thread is unfinished the rendezvous is over, and no further event does anything.
 use Rattle.std.specs.Prelude.{ℕ, zero, suc, Bool, not, if◌then◌else◌, List, [], ◌∷◌}
 use Rattle.std.specs.List.{list_any}
 use Rattle.rendezvous_steps.specs.declared.items.Event.{Event}
@@ -21,7 +21,9 @@ play plan moment [] = []
 play plan moment (event ∷ events) =
     if is_over plan moment
     then []
-    else record { thread = thread_of event; what = (happens plan event moment).1 } ∷ play plan (happens plan event moment).0 events
+    else
+    record { thread = thread_of event; what = (happens plan event moment).1 }
+    ∷ play plan (happens plan event moment).0 events
 
 -- the moment after the first k events
 abbrev pub moment_at : Plan → Running → List Event → ℕ → Running

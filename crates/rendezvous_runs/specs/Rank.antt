@@ -1,6 +1,7 @@
 -- How many items that count a thread can still come to, at most, by where it stands. Either all items count that are no
--- waiting, no idling and no ordinary code, or those alone that nobody else sees. By the step table each step of a thread
--- that counts lowers its rank, no step raises it, and no step touches that of another thread, whatever the words hold.
+-- waiting, no idling and no ordinary code, or those alone that nobody else sees. By the step table each step of a
+-- thread that counts lowers its rank, no step raises it, and none touches that of another thread, whatever the words
+-- hold.
 use Rattle.std.specs.Prelude.{ℕ, ◌+◌, ◌*◌, ◌==◌, Bool, true, false, if◌then◌else◌, max, count_by, sum_by}
 use Rattle.rendezvous_steps.specs.declared.steps.Kind.{Kind}
 use Rattle.rendezvous_steps.specs.declared.steps.Kind.TheVariants.{Offline}

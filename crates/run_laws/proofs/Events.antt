@@ -50,7 +50,8 @@ module _ (all : Bool) (plan : Plan) (t : ℕ) (m : Running) where
   performs_falls h (Some op) =
       let next = after plan t (m.locals t) h (m.words (touched op)) in
       let fits = after_fits all plan t (m.locals t) h (m.words (touched op)) in
-      let here : rank all plan t (put m.locals t next.0 t) ≡ rank all plan t next.0 = ap (rank all plan t) (put_same m.locals t next.0) in
+      let here : rank all plan t (put m.locals t next.0 t) ≡ rank all plan t next.0 =
+      ap (rank all plan t) (put_same m.locals t next.0) in
       record { own = omega arith; others = λ u other. put_other m.locals t u next.0 other }
   performs_falls h None = both (left_with_latch t m) (runs_ordinary t m) (idles m) ordinary_falls idle_falls
 
@@ -81,7 +82,8 @@ module _ (all : Bool) (plan : Plan) (t : ℕ) (m : Running) where
 
   nmi_falls : Fall (nmi_comes plan t m)
   nmi_falls =
-      both (shows_held plan m.words t) (latches t m) (nmi_by (plan.kind t) plan t m) latch_falls (nmi_by_falls (plan.kind t))
+      both (shows_held plan m.words t) (latches t m) (nmi_by (plan.kind t) plan t m) latch_falls
+      (nmi_by_falls (plan.kind t))
 
 pub ranks_fall : RanksFall
 unfolding happens

@@ -54,24 +54,31 @@ module _ (all : Bool) (plan : Plan) (t : ℕ) (s : Scaled all) where
   left_both n true x y first second = first
   left_both n false x y first second = second
 
-  weight_both : (n : ℕ) (b : Bool) (x y : What) → weight all x ≤ n → weight all y ≤ n → weight all (if b then x else y) ≤ n
+  weight_both :
+      (n : ℕ) (b : Bool) (x y : What) → weight all x ≤ n → weight all y ≤ n → weight all (if b then x else y) ≤ n
   weight_both n true x y first second = first
   weight_both n false x y first second = second
 
   -- where the loops over threads lead
 
-  kicks : (local : Local) (k : ℕ) (o : Option ℕ) → offline_from plan k ≡ o → left (kick_at local o) ≤ 2 + others all 1 + others all (offlines_left plan k) + path_rank all plan t
+  kicks :
+      (local : Local) (k : ℕ) (o : Option ℕ) → offline_from plan k ≡ o →
+      left (kick_at local o) ≤ 2 + others all 1 + others all (offlines_left plan k) + path_rank all plan t
   kicks local k (Some m) e =
       let fewer = others_found all (offlines_left plan (m + 1)) (offlines_left plan k) (offline_found plan k m e) in
       let two = others_two all (offlines_left plan (m + 1)) in
       omega arith
   kicks local k None e = omega arith
 
-  withdraws : (local : Local) (k : ℕ) (o : Option ℕ) → offline_from plan k ≡ o → left (withdraw_at local o) ≤ 2 * offlines_left plan k + others all 1
+  withdraws :
+      (local : Local) (k : ℕ) (o : Option ℕ) → offline_from plan k ≡ o →
+      left (withdraw_at local o) ≤ 2 * offlines_left plan k + others all 1
   withdraws local k (Some m) e = let fewer = offline_found plan k m e in omega arith
   withdraws local k None e = omega arith
 
-  frees : (local : Local) (k : ℕ) (o : Option ℕ) → sibling_from plan t k ≡ o → left (free_at local o) ≤ siblings_left plan t k + others all 1
+  frees :
+      (local : Local) (k : ℕ) (o : Option ℕ) → sibling_from plan t k ≡ o →
+      left (free_at local o) ≤ siblings_left plan t k + others all 1
   frees local k (Some m) e = let fewer = sibling_found plan t k m e in omega arith
   frees local k None e = omega arith
 
@@ -99,7 +106,8 @@ module _ (all : Bool) (plan : Plan) (t : ℕ) (s : Scaled all) where
   decides local found =
       let go = goes local in
       let drop = drops local in
-      fits_both (1 + path_rank all plan t) (found == 1) (go_path plan t local, what.Inner) (drop_path plan t local, what.Inner)
+      fits_both (1 + path_rank all plan t) (found == 1) (go_path plan t local, what.Inner)
+      (drop_path plan t local, what.Inner)
       (omega arith) (omega arith)
 
   released : (local : Local) (found : ℕ) → Fits (2 + others all 1) (by_release local found)
@@ -128,7 +136,8 @@ module _ (all : Bool) (plan : Plan) (t : ℕ) (s : Scaled all) where
   -- by phase
 
   first_kick : (local : Local) (o : Option ℕ) → offline_from plan 0 ≡ o →
-      others all 1 + left (loop_at local Kicking o Arriving) ≤ 2 + others all (2 + offlines_left plan 0) + path_rank all plan t
+      others all 1 + left (loop_at local Kicking o Arriving) ≤ 2 + others all (2 + offlines_left plan 0) + path_rank
+      all plan t
   first_kick local (Some m) e =
       let fewer = others_found all (offlines_left plan (m + 1)) (offlines_left plan 0) (offline_found plan 0 m e) in
       let there = others_two all (offlines_left plan (m + 1)) in
@@ -155,7 +164,8 @@ module _ (all : Bool) (plan : Plan) (t : ℕ) (s : Scaled all) where
       fits_both (1 + others all 3) (found == 1) (to local OfflineCount, what.Enter)
       (if found == 3 then (to local Withdrawn, outside_item h what.Idle) else (local, outside_item h what.Poll))
       (omega arith)
-      (fits_both (1 + others all 3) (found == 3) (to local Withdrawn, outside_item h what.Idle) (local, outside_item h what.Poll)
+      (fits_both (1 + others all 3) (found == 3) (to local Withdrawn, outside_item h what.Idle)
+      (local, outside_item h what.Poll)
       (omega arith) (omega arith))
 
   looks_for_offline : (local : Local) (found : ℕ) → left local ≡ 2 + others all 1 + path_rank all plan t →
@@ -163,13 +173,15 @@ module _ (all : Bool) (plan : Plan) (t : ℕ) (s : Scaled all) where
       (if found == offline_count plan then (to local Arriving, what.Inner) else (polled local, what.Poll))
   looks_for_offline local found e =
       let zero = none in
-      fits_both _ (found == offline_count plan) (to local Arriving, what.Inner) (polled local, what.Poll) (omega arith) (omega arith)
+      fits_both _ (found == offline_count plan) (to local Arriving, what.Inner) (polled local, what.Poll)
+      (omega arith) (omega arith)
 
   looks_for_decision : (local : Local) (found : ℕ) → left local ≡ 1 + path_rank all plan t →
       Fits (1 + path_rank all plan t) (if found == 0 then (polled local, what.Poll) else by_decision plan t local found)
   looks_for_decision local found e =
       let zero = none in
-      fits_both _ (found == 0) (polled local, what.Poll) (by_decision plan t local found) (omega arith) (decides local found)
+      fits_both _ (found == 0) (polled local, what.Poll) (by_decision plan t local found) (omega arith)
+      (decides local found)
 
   looks_for_release : (local : Local) (found : ℕ) → left local ≡ 2 + others all 1 →
       Fits (2 + others all 1) (if found == 0 then (polled local, what.Poll) else by_release local found)
@@ -185,7 +197,8 @@ module _ (all : Bool) (plan : Plan) (t : ℕ) (s : Scaled all) where
 
   halts_or : (local : Local) (n found : ℕ) (row : Local × What) → others all 1 ≤ n → Fits n row →
       Fits n (if found == 0 then (to local Halted, what.Halt) else row)
-  halts_or local n found row within other = fits_both n (found == 0) (to local Halted, what.Halt) row (omega arith) other
+  halts_or local n found row within other = fits_both n (found == 0) (to local Halted, what.Halt) row (omega arith)
+      other
 
   fits : (at polls mine found : ℕ) (h : How) (p : Phase) →
       Fits (rank_in all plan t at p) (after_in plan t (here p at polls mine) h found p)
@@ -202,17 +215,20 @@ module _ (all : Bool) (plan : Plan) (t : ℕ) (s : Scaled all) where
   fits at polls mine found how.Nmi OfflineWait = looks_for_offline (here OfflineWait at polls mine) found refl
   fits at polls mine found h Arriving =
       let local = here Arriving at polls mine in
-      let next = left_both (1 + path_rank all plan t) (found == 1) (to local Deciding) (wait_in local Waiting) (omega arith) (omega arith) in
+      let next = left_both (1 + path_rank all plan t) (found == 1) (to local Deciding) (wait_in local Waiting)
+      (omega arith) (omega arith) in
       omega arith
   fits at polls mine found h Deciding =
       let local = here Deciding at polls mine in
       let go = goes local in
       let drop = drops local in
-      fits_both _ (found == 0) (go_path plan t local, what.Go) (drop_path plan t local, what.Inner) (omega arith) (omega arith)
+      fits_both _ (found == 0) (go_path plan t local, what.Go) (drop_path plan t local, what.Inner) (omega arith)
+      (omega arith)
   fits at polls mine found how.Timeout Waiting =
       let local = here Waiting at polls mine in
       let drop = drops local in
-      fits_both _ (found == 0) (drop_path plan t local, what.Drop) (by_decision plan t local found) (omega arith) (decides local found)
+      fits_both _ (found == 0) (drop_path plan t local, what.Drop) (by_decision plan t local found) (omega arith)
+      (decides local found)
   fits at polls mine found how.Step Waiting = looks_for_decision (here Waiting at polls mine) found refl
   fits at polls mine found how.Nmi Waiting = looks_for_decision (here Waiting at polls mine) found refl
   fits at polls mine found h Reading =
@@ -224,7 +240,8 @@ module _ (all : Bool) (plan : Plan) (t : ℕ) (s : Scaled all) where
   fits at polls mine found h Writing = omega arith
   fits at polls mine found h Checking = omega arith
   fits at polls mine found h Reporting =
-      let next = frees (record { phase = Reporting; at = at; polls = polls; mine = told mine }) 0 (sibling_from plan t 0) refl in
+      let next = frees (record { phase = Reporting; at = at; polls = polls; mine = told mine }) 0
+      (sibling_from plan t 0) refl in
       omega arith
   fits at polls mine found h Freeing =
       let next = frees (here Freeing at polls mine) (at + 1) (sibling_from plan t (at + 1)) refl in
@@ -240,7 +257,8 @@ module _ (all : Bool) (plan : Plan) (t : ℕ) (s : Scaled all) where
   fits at polls mine found h Withdrawing =
       let local = here Withdrawing at polls mine in
       let next = withdraws local (at + 1) (offline_from plan (at + 1)) refl in
-      fits_both _ (found == 1) (withdraw_at local (offline_from plan (at + 1)), what.Withdraw at) (to local Releasing, what.Inner)
+      fits_both _ (found == 1) (withdraw_at local (offline_from plan (at + 1)), what.Withdraw at)
+      (to local Releasing, what.Inner)
       (omega arith) (omega arith)
   fits at polls mine found h Releasing =
       let next = withdraws (here Releasing at polls mine) (at + 1) (offline_from plan (at + 1)) refl in

@@ -61,22 +61,26 @@ inner_falls plan t moment event =
 
 inner_by : (plan : Plan) (t : ℕ) (moment : Running) (event : Event) (events : List Event) (over : Bool) →
     is_over plan moment ≡ over →
-    count_by (is_inner_of t) (play plan (happens plan event moment).0 events) ≤ rank false plan t ((happens plan event moment).0.locals t) →
+    count_by (is_inner_of t) (play plan (happens plan event moment).0 events) ≤ rank false plan t
+    ((happens plan event moment).0.locals t) →
     count_by (is_inner_of t) (play plan moment (event ∷ events)) ≤ rank false plan t (moment.locals t)
 inner_by plan t moment event events true over rest = rw over (omega arith)
 inner_by plan t moment event events false over rest =
     let falls = inner_falls plan t moment event in
-    let first = sum_by-cons (λ item. cond (is_inner_of t item) 1 0) (item_of plan moment event) (play plan (happens plan event moment).0 events) in
+    let first = sum_by-cons (λ item. cond (is_inner_of t item) 1 0) (item_of plan moment event)
+    (play plan (happens plan event moment).0 events) in
     rw over (omega arith)
 
 inner_within : (plan : Plan) (t : ℕ) (moment : Running) (events : List Event) →
     count_by (is_inner_of t) (play plan moment events) ≤ rank false plan t (moment.locals t)
 inner_within plan t moment [] = omega arith
 inner_within plan t moment (event ∷ events) =
-    inner_by plan t moment event events (is_over plan moment) refl (inner_within plan t (happens plan event moment).0 events)
+    inner_by plan t moment event events (is_over plan moment) refl
+    (inner_within plan t (happens plan event moment).0 events)
 
 path_by : (plan : Plan) (t : ℕ) (primary zero : Bool) →
-    max (if primary then 2 + siblings_left plan t 0 else 2) (if zero then 2 * offlines_left plan 0 + 0 else 0) ≤ 2 * plan.threads + 2
+    max (if primary then 2 + siblings_left plan t 0 else 2)
+    (if zero then 2 * offlines_left plan 0 + 0 else 0) ≤ 2 * plan.threads + 2
 path_by plan t true true = let a = offlines_few plan 0 in let b = siblings_few plan t 0 in omega arith
 path_by plan t true false = let b = siblings_few plan t 0 in omega arith
 path_by plan t false true = let a = offlines_few plan 0 in omega arith
@@ -84,11 +88,14 @@ path_by plan t false false = omega arith
 
 enters_by : (plan : Plan) (t : ℕ) (primary zero : Bool) →
     (if zero then 2 else 1)
-    + max (if primary then 2 + siblings_left plan t 0 else 2) (if zero then 2 * offlines_left plan 0 + 0 else 0) ≤ 2 * plan.threads + 8
+    + max (if primary then 2 + siblings_left plan t 0 else 2)
+    (if zero then 2 * offlines_left plan 0 + 0 else 0) ≤ 2 * plan.threads + 8
 enters_by plan t primary true = let path = path_by plan t primary true in omega arith
 enters_by plan t primary false = let path = path_by plan t primary false in omega arith
 
-first_by : (plan : Plan) (t : ℕ) (kind : Kind) → plan.kind t ≡ kind → rank_in false plan t 0 (opening_phase kind) ≤ 2 * plan.threads + 8
+first_by :
+    (plan : Plan) (t : ℕ) (kind : Kind) → plan.kind t ≡ kind →
+    rank_in false plan t 0 (opening_phase kind) ≤ 2 * plan.threads + 8
 first_by plan t Offline e = rw e (omega arith)
 first_by plan t Absent e = omega arith
 first_by plan t Online e = rw e (enters_by plan t (is_primary plan t) (t == 0))
@@ -109,9 +116,12 @@ few_inner_items plan events t =
 abbrev Stands : Plan → Running → Type 0
 Stands plan moment = (t : ℕ) → plan.threads ≤ t → rank true plan t (moment.locals t) ≡ 0
 
-stands_still : (plan : Plan) (event : Event) (moment : Running) → Stands plan moment → Stands plan (happens plan event moment).0
+stands_still :
+    (plan : Plan) (event : Event) (moment : Running) → Stands plan moment →
+    Stands plan (happens plan event moment).0
 stands_still plan event moment stands t past =
-    let kept = rank_kept true plan (thread_of event) moment (happens plan event moment) (ranks_fall true plan event moment) t in
+    let kept = rank_kept true plan (thread_of event) moment (happens plan event moment)
+    (ranks_fall true plan event moment) t in
     let none = stands t past in
     omega arith
 
@@ -128,7 +138,8 @@ counted_falls plan event moment stands =
           let none = stands (thread_of event) past in
           let own = falls.own in
           let is = weight_is after.1 in
-          let kept = sum_le (λ u. rank true plan u (after.0.locals u)) (λ u. rank true plan u (moment.locals u)) 0 (plan.threads - 0)
+          let kept = sum_le (λ u. rank true plan u (after.0.locals u)) (λ u. rank true plan u (moment.locals u)) 0
+          (plan.threads - 0)
           (rank_kept true plan (thread_of event) moment after falls) in
           omega arith
     ]
@@ -137,17 +148,20 @@ counted_by : (plan : Plan) (moment : Running) (event : Event) (events : List Eve
     is_over plan moment ≡ over →
     (if is_counted (happens plan event moment).1 then 1 else 0) + all_ranks plan (happens plan event moment).0.locals
     ≤ all_ranks plan moment.locals →
-    count_of (play plan (happens plan event moment).0 events) + all_ranks plan (last_moment plan (happens plan event moment).0 events).locals
+    count_of (play plan (happens plan event moment).0 events) + all_ranks plan
+    (last_moment plan (happens plan event moment).0 events).locals
     ≤ all_ranks plan (happens plan event moment).0.locals →
     count_of (play plan moment (event ∷ events)) + all_ranks plan (last_moment plan moment (event ∷ events)).locals
     ≤ all_ranks plan moment.locals
 counted_by plan moment event events true over falls rest = rw over (omega arith)
 counted_by plan moment event events false over falls rest =
-    let first = sum_by-cons (λ item. cond (is_counted item.what) 1 0) (item_of plan moment event) (play plan (happens plan event moment).0 events) in
+    let first = sum_by-cons (λ item. cond (is_counted item.what) 1 0) (item_of plan moment event)
+    (play plan (happens plan event moment).0 events) in
     rw over (omega arith)
 
 pub counted_within : (plan : Plan) (moment : Running) (events : List Event) → Stands plan moment →
-    count_of (play plan moment events) + all_ranks plan (last_moment plan moment events).locals ≤ all_ranks plan moment.locals
+    count_of (play plan moment events) + all_ranks plan (last_moment plan moment events).locals ≤ all_ranks plan
+    moment.locals
 counted_within plan moment [] stands = omega arith
 counted_within plan moment (event ∷ events) stands =
     counted_by plan moment event events (is_over plan moment) refl (counted_falls plan event moment stands)

@@ -46,7 +46,8 @@ moved f table t u new after e =
     ]
 
 pub unmoved :
-    {A : Type 0} (f : A → Bool) (table : ℕ → A) (t u : ℕ) (new : A) → f (table t) ≡ f new → f (put table t new u) ≡ f (table u)
+    {A : Type 0} (f : A → Bool) (table : ℕ → A) (t u : ℕ) (new : A) → f (table t) ≡ f new →
+    f (put table t new u) ≡ f (table u)
 unmoved f table t u new e =
     elim (same_or_not u t) [
       | inl same ↦ ap f (ap (put table t new) same ∙ put_same table t new) ∙ sym e ∙ ap (λ v. f (table v)) (sym same)
@@ -61,7 +62,9 @@ either false x = refl
 within_after :
     (plan : Plan) (t : ℕ) (cause : Cause) (s : State) (item : What) (s' : State) →
     RoundBy plan t cause s item s' →
-    (u : ℕ) → within ((change plan t item s).place u) ≡ (if t == u then inside_after (within (s.place u)) item else within (s.place u))
+    (u : ℕ) →
+    within ((change plan t item s).place u) ≡
+    (if t == u then inside_after (within (s.place u)) item else within (s.place u))
 within_after plan t cause s what.Enter s' by u = moved within s.place t u In true refl
 within_after plan t cause s (what.Leave x) s' by u = moved within s.place t u (Left x) false refl
 within_after plan t cause s what.Halt s' by u =
@@ -89,15 +92,19 @@ done_after :
 done_after plan t cause s (what.Begin h) s' by g none =
     (sym (unmoved has_written s.group h g Writing (ap has_written by.1.waits)) ∙ none, refl)
 done_after plan t cause s (what.Wrote h r) s' by g none =
-    let other : g ≢ h = λ same. true≢false (sym (ap has_written (ap (put s.group h Written) same ∙ put_same s.group h Written)) ∙ none) in
+    let other : g ≢ h = λ same. true≢false (sym
+    (ap has_written (ap (put s.group h Written) same ∙ put_same s.group h Written)) ∙ none) in
     (sym (ap has_written (put_other s.group h g Written other)) ∙ none, put_other s.revision h g r other)
 done_after plan t cause s (what.Report h x) s' by g none =
-    let other : g ≢ h = λ same. true≢false (sym (ap has_written (ap (put s.group h (Reported x)) same ∙ put_same s.group h (Reported x))) ∙ none) in
+    let other : g ≢ h = λ same. true≢false (sym
+    (ap has_written (ap (put s.group h (Reported x)) same ∙ put_same s.group h (Reported x))) ∙ none) in
     (sym (ap has_written (put_other s.group h g (Reported x) other)) ∙ none, refl)
 done_after plan t cause s item s' by g none = (none, refl)
 
 -- a thread that takes no part stays so
-stays_absent : (place : ℕ → Place) (t u : ℕ) (old new : Place) → place t ≡ old → old ≢ Absent → place u ≡ Absent → put place t new u ≡ Absent
+stays_absent :
+    (place : ℕ → Place) (t u : ℕ) (old new : Place) → place t ≡ old → old ≢ Absent → place u ≡ Absent →
+    put place t new u ≡ Absent
 stays_absent place t u old new here present absent =
     put_other place t u new (λ same. present (sym here ∙ ap place (sym same) ∙ absent)) ∙ absent
 
@@ -105,9 +112,11 @@ absent_after :
     (plan : Plan) (t : ℕ) (cause : Cause) (s : State) (item : What) (s' : State) →
     RoundBy plan t cause s item s' → (u : ℕ) → s.place u ≡ Absent → (change plan t item s).place u ≡ Absent
 absent_after plan t cause s what.Enter s' by u absent = stays_absent s.place t u Out In by.is_out (λ e. cc) absent
-absent_after plan t cause s (what.Leave x) s' by u absent = stays_absent s.place t u In (Left x) by.1.is_in (λ e. cc) absent
+absent_after plan t cause s (what.Leave x) s' by u absent =
+    stays_absent s.place t u In (Left x) by.1.is_in (λ e. cc) absent
 absent_after plan t cause s what.Halt s' by u absent = stays_absent s.place t u In Halted by.is_in (λ e. cc) absent
-absent_after plan t cause s (what.Withdraw k) s' by u absent = stays_absent s.place k u Out Withdrawn by.1.is_out (λ e. cc) absent
+absent_after plan t cause s (what.Withdraw k) s' by u absent =
+    stays_absent s.place k u Out Withdrawn by.1.is_out (λ e. cc) absent
 absent_after plan t cause s item s' by u absent = absent
 
 -- What items tell of the state that they lead to.
@@ -134,7 +143,8 @@ front_opens plan s e =
 -- one item more
 front_step :
     (plan : Plan) (items : List Item) (k : ℕ) (event : Event) (item : Item) (s s' : State) →
-    slice_get items k ≡ Some item → Front plan (take k items) s → Answered plan event item s s' → Front plan (take (k + 1) items) s'
+    slice_get items k ≡ Some item → Front plan (take k items) s → Answered plan event item s s' →
+    Front plan (take (k + 1) items) s'
 front_step plan items k event item s s' e front answered =
     let t = thread_of event in
     let cause = cause_of s event in
@@ -143,9 +153,11 @@ front_step plan items k event item s s' e front answered =
     subst (λ x. Front plan (take (k + 1) items) x) (sym (changed plan t cause s item.what s' answered.step)) (record {
       inside = λ u.
           fold_more (λ inside i. if i.thread == u then inside_after inside i.what else inside) false items k item room
-          ∙ (ap (λ (i : Item). if i.thread == u then inside_after (is_inside u (take k items)) i.what else is_inside u (take k items)) here
+          ∙ (ap (λ (i : Item). if i.thread == u then inside_after (is_inside u (take k items)) i.what else is_inside
+          u (take k items)) here
           ∙ (ap (λ b. if item.thread == u then inside_after b item.what else b) (front.inside u)
-          ∙ (ap (λ n. if n == u then inside_after (within (s.place u)) item.what else within (s.place u)) answered.of_its_thread
+          ∙ (ap (λ n. if n == u then inside_after (within (s.place u)) item.what else within (s.place u))
+          answered.of_its_thread
           ∙ sym (within_after plan t cause s item.what s' answered.step u))));
       in_write = λ g.
           fold_more (λ in_write i. write_after g in_write i.what) false items k item room

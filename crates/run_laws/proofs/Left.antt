@@ -42,7 +42,8 @@ unfolding offline_from offlines_left
 offline_found plan k m e = found (λ u. is_offline (plan.kind u)) plan.threads k (plan.threads - k) m refl e
 
 pub sibling_found :
-    (plan : Plan) (t k m : ℕ) → sibling_from plan t k ≡ Some m → 1 + siblings_left plan t (m + 1) ≤ siblings_left plan t k
+    (plan : Plan) (t k m : ℕ) → sibling_from plan t k ≡ Some m →
+    1 + siblings_left plan t (m + 1) ≤ siblings_left plan t k
 unfolding sibling_from siblings_left
 sibling_found plan t k m e = found (is_sibling plan t) plan.threads k (plan.threads - k) m refl e
 

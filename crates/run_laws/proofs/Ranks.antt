@@ -45,7 +45,8 @@ all_ranks_fall plan event moment within =
     let t = thread_of event in
     let after = happens plan event moment in
     let falls = ranks_fall true plan event moment in
-    let own : (if is_counted after.1 then 1 else 0) + rank true plan t (after.0.locals t) ≤ rank true plan t (moment.locals t) =
+    let own : (if is_counted after.1 then 1 else 0) + rank true plan t (after.0.locals t) ≤ rank true plan t
+    (moment.locals t) =
     rw (← weight_is after.1) falls.own in
     sum_falls (λ u. rank true plan u (after.0.locals u)) (λ u. rank true plan u (moment.locals u))
     (if is_counted after.1 then 1 else 0) t 0 (plan.threads - 0) (omega arith) (omega arith) own
@@ -57,14 +58,18 @@ all_ranks_fall plan event moment within =
 abbrev kin : Plan → ℕ → ℕ
 kin plan t = sum_over (λ u. cond (is_primary plan t && is_sibling plan t u) 1 0) 0 (plan.threads - 0)
 
-kin_of_primary : (plan : Plan) (t : ℕ) (b : Bool) → is_primary plan t ≡ b → (if b then siblings_left plan t 0 else 0) ≤ kin plan t
+kin_of_primary :
+    (plan : Plan) (t : ℕ) (b : Bool) → is_primary plan t ≡ b →
+    (if b then siblings_left plan t 0 else 0) ≤ kin plan t
 unfolding siblings_left
 kin_of_primary plan t true e =
-    sum_le (λ u. cond (is_sibling plan t u) 1 0) (λ u. cond (is_primary plan t && is_sibling plan t u) 1 0) 0 (plan.threads - 0) (λ u. rw e (omega arith))
+    sum_le (λ u. cond (is_sibling plan t u) 1 0) (λ u. cond (is_primary plan t && is_sibling plan t u) 1 0) 0
+    (plan.threads - 0) (λ u. rw e (omega arith))
 kin_of_primary plan t false e = omega arith
 
 -- a thread is one of the others of one primary's group at most
-is_its_primary : (plan : Plan) (t u : ℕ) → (is_primary plan t && is_sibling plan t u) ≡ true → t ≡ plan.primary (plan.group u)
+is_its_primary :
+    (plan : Plan) (t u : ℕ) → (is_primary plan t && is_sibling plan t u) ≡ true → t ≡ plan.primary (plan.group u)
 is_its_primary plan t u e =
     let primary : (t == plan.primary (plan.group t)) ≡ true = first (is_primary plan t) (is_sibling plan t u) e in
     let sibling : is_sibling plan t u ≡ true = second (is_primary plan t) (is_sibling plan t u) e in
@@ -91,7 +96,8 @@ kin_few plan =
     let swap = sum_swap (λ t u. cond (is_primary plan t && is_sibling plan t u) 1 0) 0 n 0 n in
     let each = sum_at_most
     (λ u. sum_over (λ t. cond (is_primary plan t && is_sibling plan t u) 1 0) 0 n) (λ u. 0) 1 0 n
-    (λ u. let one = one_at_most (λ t. is_primary plan t && is_sibling plan t u) (plan.primary (plan.group u)) 0 n (λ t e. is_its_primary plan t u e) in omega arith) in
+    (λ u. let one = one_at_most (λ t. is_primary plan t && is_sibling plan t u) (plan.primary (plan.group u)) 0 n
+    (λ t e. is_its_primary plan t u e) in omega arith) in
     let nothing = sum_none 0 n in
     omega arith
 
@@ -140,7 +146,8 @@ pub first_ranks : FirstRanks
 unfolding all_ranks
 first_ranks plan =
     let n = plan.threads - 0 in
-    let all = sum_at_most (λ t. rank true plan t (opening plan t)) (λ t. kin plan t + more plan t) 9 0 n (first_rank plan) in
+    let all = sum_at_most (λ t. rank true plan t (opening plan t)) (λ t. kin plan t + more plan t) 9 0 n
+    (first_rank plan) in
     let parts = sum_plus (kin plan) (more plan) 0 n in
     let few = kin_few plan in
     let one = first_alone (1 + 3 * plan.threads) n in

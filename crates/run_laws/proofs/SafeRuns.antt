@@ -48,7 +48,8 @@ no b off on = absurd (true≢false (sym on ∙ off))
 -- a thread that runs ordinary code takes part, and is not in the handler
 runs_outside :
     (kind : Kind) (cause : Cause) (place : Place) (kicked latched : Bool) →
-    (is_free_to_run kind cause place kicked || comes_through cause place latched) ≡ true → (place ≢ Absent) × (within place ≡ false)
+    (is_free_to_run kind cause place kicked || comes_through cause place latched) ≡ true →
+    (place ≢ Absent) × (within place ≡ false)
 runs_outside kind cause Out kicked latched e = (λ absent. cc, refl)
 runs_outside kind cause (Left x) kicked latched e = (λ absent. cc, refl)
 runs_outside kind cause Withdrawn kicked latched e = (λ absent. cc, refl)
@@ -92,9 +93,11 @@ safe_runs_exclude plan events items states run safe j k item e =
     let room : k < length items = slice_get_within items k item here.0 in
     let reads : get_or items k no_item ≡ item = get_or_from_slice_get items k item no_item here.0 in
     let one : Answered plan (get_or events k no_event) item (states k) (states (k + 1)) =
-    subst (λ i. Answered plan (get_or events k no_event) i (states k) (states (k + 1))) reads (answered plan events items states run k room) in
+    subst (λ i. Answered plan (get_or events k no_event) i (states k) (states (k + 1))) reads
+    (answered plan events items states run k room) in
     let front = fronts plan events items states run k (omega arith) in
-    let may = may_come plan (take k items) (thread_of (get_or events k no_event)) _ (states k) item.what (states (k + 1)) front
+    let may = may_come plan (take k items) (thread_of (get_or events k no_event)) _ (states k) item.what
+    (states (k + 1)) front
     (safe k (omega arith)) (safe (k + 1) (omega arith)) one.step in
     subst (λ earlier. MayCome plan earlier item.thread item.what) (sym here.1)
     (subst (λ t. MayCome plan (take k items) t item.what) (sym one.of_its_thread) may)

@@ -63,7 +63,8 @@ sum_swap f a (suc n) b m =
     sum_step (λ u. sum_over (f u) b m) a n
     ∙ (ap (λ k. sum_over (f a) b m + k) (sum_swap f (a + 1) n b m)
     ∙ (sym (sum_plus (f a) (λ v. sum_over (λ u. f u v) (a + 1) n) b m)
-    ∙ sums_same (λ v. f a v + sum_over (λ u. f u v) (a + 1) n) (λ v. sum_over (λ u. f u v) a (suc n)) b m (λ v. sym (sum_step (λ u. f u v) a n))))
+    ∙ sums_same (λ v. f a v + sum_over (λ u. f u v) (a + 1) n) (λ v. sum_over (λ u. f u v) a (suc n)) b m
+    (λ v. sym (sum_step (λ u. f u v) a n))))
   where
     sums_same : (f g : ℕ → ℕ) (a n : ℕ) → ((u : ℕ) → f u ≡ g u) → sum_over f a n ≡ sum_over g a n
     sums_same f g a zero same = refl
@@ -79,7 +80,8 @@ none_from p c a (suc n) above one =
       | inl passes ↦ let e = one a passes in absurd (omega arith)
       | inr fails ↦
           let rest = none_from p c (a + 1) n (omega arith) one in
-          let here = sum_step (λ u. cond (p u) 1 0) a n ∙ ap (λ b. cond b 1 0 + count_by p (range_with_len (a + 1) n)) fails in
+          let here = sum_step (λ u. cond (p u) 1 0) a n
+          ∙ ap (λ b. cond b 1 0 + count_by p (range_with_len (a + 1) n)) fails in
           omega arith
     ]
 
@@ -91,10 +93,12 @@ one_at_most p c a (suc n) one =
       | inl passes ↦
           let e = one a passes in
           let rest = none_from p c (a + 1) n (omega arith) one in
-          let here = sum_step (λ u. cond (p u) 1 0) a n ∙ ap (λ b. cond b 1 0 + count_by p (range_with_len (a + 1) n)) passes in
+          let here = sum_step (λ u. cond (p u) 1 0) a n
+          ∙ ap (λ b. cond b 1 0 + count_by p (range_with_len (a + 1) n)) passes in
           omega arith
       | inr fails ↦
           let rest = one_at_most p c (a + 1) n one in
-          let here = sum_step (λ u. cond (p u) 1 0) a n ∙ ap (λ b. cond b 1 0 + count_by p (range_with_len (a + 1) n)) fails in
+          let here = sum_step (λ u. cond (p u) 1 0) a n
+          ∙ ap (λ b. cond b 1 0 + count_by p (range_with_len (a + 1) n)) fails in
           omega arith
     ]

@@ -9,8 +9,8 @@ use Rattle.rendezvous_model.specs.Safe.{Safe}
 use Rattle.rendezvous_model.specs.Run.{Run, NeverFalls}
 use Rattle.rendezvous_model.specs.Excluded.{Excluded}
 
--- Where each state of a run is safe, no thread of a group runs ordinary code from the group's begin until its report, over
--- each front of the items: also where the schedule ends within the write.
+-- Where each state of a run is safe, no thread of a group runs ordinary code from the group's begin until its report,
+-- over each front of the items: also where the schedule ends within the write.
 abbrev pub SafeRunsExclude : Type 0
 SafeRunsExclude =
     (plan : Plan) (events : List Event) (items : List Item) (states : ℕ → State) →

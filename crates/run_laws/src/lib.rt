@@ -1,8 +1,9 @@
-//! Laws of whole runs of a rendezvous, proved of its definitions. Each law is the contract of a function that does nothing.
+//! Laws of whole runs of a rendezvous, proved of its definitions. Each law is the contract of a function that does
+//! nothing.
 //!
 //! - `counts`: by the step table alone few items of a run count, and no thread makes many that nobody else sees.
-//! - `safety`: by the model alone a run whose states are safe lets no thread run ordinary code while its group is written,
-//!   and no run lets a revision fall.
+//! - `safety`: by the model alone a run whose states are safe lets no thread run ordinary code while its group is
+//!   written, and no run lets a revision fall.
 #![tactic(auto)]
 
 mod counts;
