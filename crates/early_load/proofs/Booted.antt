@@ -1,5 +1,5 @@
 -- A boot, put together from what it did.
-use Rattle.std.proofs.Common.{◌≡◌, ◌≢◌, ℕ, ◌<◌, ◌≤◌, Bool, true, false, List, length, filter, Option, Some, None, Result, refl, sym, ap, ◌∙◌, subst, inl, inr, arith}
+use Rattle.std.proofs.Common.{◌≡◌, ℕ, true, List, length, filter, Option, Some, None, Result, sym, ap, ◌∙◌, inl, inr, arith}
 use Rattle.std.proofs.Math.Path.{fun_ext}
 use Rattle.std.proofs.lemmas.Bool.{cases_Bool, cases_lt, false≢true}
 use Rattle.std.proofs.lemmas.List.{get_or_past}
@@ -8,7 +8,7 @@ use Rattle.patch_pool.specs.declared.pool.PatchId.{PatchId}
 use Rattle.machine_steps.specs.declared.bring_ups.BringUp.{BringUp}
 use Rattle.machine_steps.specs.declared.states.Power.TheVariants.{On}
 use Rattle.machine_steps.specs.Hardware.{Setting, Hardware, is_off, with_power, threads_of}
-use Rattle.machine_steps.specs.BringUps.{AllBrought, bring_up_each}
+use Rattle.machine_steps.specs.BringUps.{bring_up_each}
 use Rattle.machine_steps.specs.Puts.{Puts, is_cached}
 use Rattle.early_load.specs.Caches.{first_block, place_at, cached_patches, IsHeld, HoldsJustCached}
 use Rattle.early_load.specs.Puts.{ArePut, IsElsewhere}

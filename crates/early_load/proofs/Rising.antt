@@ -1,11 +1,11 @@
 -- Threads that come up, one after the other.
-use Rattle.std.proofs.Common.{◌≡◌, ◌≢◌, ℕ, zero, suc, ◌+◌, ◌-◌, ◌<◌, ◌≤◌, Bool, true, false, List, [], ◌∷◌, ◌++◌, filter, nat_eq, if◌then◌else◌, Option, Some, None, Ok, refl, sym, ap, ◌∙◌, subst, inl, inr, append_assoc, append-nil, arith}
+use Rattle.std.proofs.Common.{◌≡◌, ◌≢◌, ℕ, zero, suc, ◌+◌, ◌-◌, ◌<◌, ◌≤◌, Bool, true, false, List, [], ◌∷◌, ◌++◌, filter, if◌then◌else◌, Option, Some, None, Ok, refl, sym, ap, ◌∙◌, append_assoc, append-nil, arith}
 use Rattle.std.specs.List.{range_with_len}
-use Rattle.std.proofs.lemmas.Bool.{cases_eq, ne_eqb}
+use Rattle.std.proofs.lemmas.Bool.{ne_eqb}
 use Rattle.machine_steps.specs.declared.bring_ups.BringUp.{BringUp}
-use Rattle.machine_steps.specs.declared.states.Power.TheVariants.{Off, On, Asleep}
+use Rattle.machine_steps.specs.declared.states.Power.TheVariants.{On}
 use Rattle.machine_steps.specs.declared.states.ThreadState.TheVariants.{Up}
-use Rattle.machine_steps.specs.Hardware.{Setting, Hardware, is_on, is_up, is_cold, is_off, is_asleep, all_cold, with_thread, with_power, threads_of}
+use Rattle.machine_steps.specs.Hardware.{Setting, Hardware, is_on, is_cold, is_off, all_cold, with_thread, with_power, threads_of}
 use Rattle.machine_steps.specs.Calls.{may_come_up, wake, power_on}
 use Rattle.early_load.specs.declared.wanted.Wanted.{Wanted}
 use Rattle.early_load.specs.declared.wanted.Wanted.TheVariants.{Every, Remembered}

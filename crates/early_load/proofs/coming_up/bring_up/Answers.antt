@@ -1,10 +1,10 @@
-use Rattle.std.proofs.Common.{◌≡◌, ◌<◌, ℕ, refl, sym, ap, ◌∙◌, Some, Option, arith}
+use Rattle.std.proofs.Common.{◌≡◌, ◌<◌, ℕ, sym, ap, ◌∙◌, Some, arith}
 use Rattle.machine_steps.specs.Hardware.{Hardware}
 use Rattle.machine_steps.specs.BringUps.{above, Brought, shows}
 use Rattle.machine_steps.specs.declared.bring_ups.Written.TheVariants.{No}
 use Rattle.machine_steps.specs.Puts.{patch_at}
 use Rattle.machine_steps.proofs.Revisions.{above_is_more}
-use Rattle.hw_machine.specs.Machine.{setting_of, hardware_of}
+use Rattle.hw_machine.specs.Machine.{hardware_of}
 use Rattle.patch_pool.specs.Pool.{patches_of}
 use Rattle.early_load.specs.Caches.{cached_of, cached_patches}
 use Rattle.early_load.proofs.Rising.{brought_as, first_writes}
@@ -12,8 +12,8 @@ use Rattle.early_load.proofs.coming_up.bring_up.Goals as goal
 
 pub write-requires-clause-above : goal.write-requires-clause-above
 write-requires-clause-above c =
-    let writes = first_writes _ _ _ (sym c.if_first.ensures ∙ c.in-Some.is) in
-    let more = above_is_more _ _ _ (sym c.newer-newer.ensures ∙ writes) in
+    let writes : c.newer-newer.result ≡ Some c.in-Some.new = first_writes _ _ _ (sym c.if_first.ensures ∙ c.in-Some.is) in
+    let more : c.rev.result < c.in-Some.new = above_is_more _ _ _ (sym c.newer-newer.ensures ∙ writes) in
     let same = ap (λ (h : Hardware). h.rev c.group_of-group.result) c.come_up-first.ensures.changed in
     omega (arith, more, same, c.rev.ensures)
 

@@ -1,7 +1,7 @@
-use Rattle.std.proofs.Common.{◌≡◌, filter, sym, ap, ◌∙◌}
+use Rattle.std.proofs.Common.{filter, ap, ◌∙◌}
 use Rattle.machine_steps.specs.Hardware.{Setting, Hardware, is_cold, threads_of}
 use Rattle.machine_steps.specs.BringUps.{bring_up_each}
-use Rattle.hw_machine.specs.Machine.{setting_of, hardware_of}
+use Rattle.hw_machine.specs.Machine.{hardware_of}
 use Rattle.patch_pool.specs.Pool.{patches_of}
 use Rattle.early_load.specs.Caches.{cached_of, cached_patches}
 use Rattle.early_load.proofs.Rising.{woke, resumes}

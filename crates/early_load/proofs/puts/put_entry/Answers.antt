@@ -1,4 +1,4 @@
-use Rattle.std.proofs.Common.{◌≡◌, ◌<◌, length, refl, ap, arith}
+use Rattle.std.proofs.Common.{◌<◌, refl, ap, arith}
 use Rattle.region_steps.specs.Region.{blocks_of}
 use Rattle.patch_pool.specs.Pool.{blocks_in}
 use Rattle.early_load.specs.Puts.{bytes_at}

@@ -1,9 +1,9 @@
-use Rattle.std.proofs.Common.{◌≡◌, ◌∷◌, [], ◌++◌, ℕ, ◌<◌, Some, None, Err, Result, List, Option, length, get_or, refl, sym, ap, subst, ◌∙◌, arith}
-use Rattle.region_steps.specs.Region.{Patches, Stands, blocks_of, lowest_run}
+use Rattle.std.proofs.Common.{◌∷◌, [], ◌++◌, ℕ, None, Err, Result, List, Option, get_or, refl, sym, ap, subst, ◌∙◌, arith}
+use Rattle.region_steps.specs.Region.{Stands, blocks_of, lowest_run}
 use Rattle.patch_pool.specs.declared.pool.PatchId.{PatchId}
 use Rattle.patch_pool.specs.Pool.{patches_of, blocks_in}
 use Rattle.machine_steps.specs.Puts.{Puts}
-use Rattle.early_load.specs.Puts.{bytes_at, offer_of, without}
+use Rattle.early_load.specs.Puts.{bytes_at, without}
 use Rattle.early_load.proofs.Putting.{PutSoFar, IsNew, none_put, nothing_offered, offered_again, next_put, found_no_room, taken_back, all_put, all_held, others_stand}
 use Rattle.early_load.proofs.puts.put_offers.Goals as goal
 

@@ -1,8 +1,8 @@
-use Rattle.std.proofs.Common.{◌≡◌, ◌≢◌, ℕ, ◌<◌, ◌≤◌, true, false, sym, ap, ◌∙◌, below_more, arith}
+use Rattle.std.proofs.Common.{◌≡◌, ◌≢◌, ℕ, true, false, sym, ap, ◌∙◌, below_more, arith}
 use Rattle.region_steps.specs.Region.{Patches}
 use Rattle.region_steps.proofs.Changed.{out_here, out_other}
-use Rattle.machine_steps.specs.Puts.{is_cached, swept}
-use Rattle.patch_pool.specs.Pool.{patches_of, blocks_in}
+use Rattle.machine_steps.specs.Puts.{is_cached}
+use Rattle.patch_pool.specs.Pool.{blocks_in}
 use Rattle.early_load.specs.Caches.{groups_of, cached_of}
 use Rattle.early_load.proofs.Kept.{swept_stays, swept_goes, swept_whole, just_cached}
 use Rattle.early_load.proofs.cache.PatchCache.sweep.Goals as goal
