@@ -3,7 +3,7 @@ use Rattle.std.proofs.Common.{◌≡◌, ◌≢◌, ◌⊎◌, ℕ, zero, suc, �
 use Rattle.std.specs.List.{range_with_len, All}
 use Rattle.std.proofs.lemmas.Bool.{cases_Bool}
 use Rattle.std.proofs.lemmas.List.Folds.{list_any_at}
-use Rattle.std.proofs.lemmas.List.FromFn.{get_or-range_with_len, length-range_with_len}
+use Rattle.std.proofs.lemmas.List.FromFn.{get_or-range_with_len, length-range_with_len, get_or-map-range_with_len}
 use Rattle.rendezvous_steps.specs.declared.steps.Kind.{Kind}
 use Rattle.rendezvous_steps.specs.declared.steps.Kind.TheVariants.{Online, Offline, Absent as KindAbsent}
 use Rattle.rendezvous_steps.specs.declared.steps.ThreadResult.TheVariants as results
@@ -22,9 +22,9 @@ use Rattle.rendezvous_steps.specs.Padded.{Padded}
 use Rattle.rendezvous_steps.specs.Words.{families}
 use Rattle.rendezvous_steps.specs.StepTable.{is_last}
 use Rattle.rendezvous_steps.specs.Events.{Running, put, happens, opening_running, shows_finished}
-use Rattle.rendezvous_model.specs.Round.{State, Cause, Step, Timeout, Run, Place, Out, In, Left, Halted, Withdrawn, Stage, Gathering, Going, DroppedByKick, DroppedBy, nobody, is_dropped, is_halted, is_held, is_unfinished, opening_place, opening_state}
+use Rattle.rendezvous_model.specs.Round.{State, Cause, Step, Timeout, Run, Place, Out, In, Left, Halted, Withdrawn, Absent, Stage, Gathering, Going, DroppedByKick, DroppedBy, nobody, is_dropped, is_halted, is_held, is_unfinished, opening_place, opening_state}
 use Rattle.rendezvous_model.specs.RoundStep.{RoundBy, cause_of, thread_of}
-use Rattle.rendezvous_model.specs.Outcome.{Outcome, OutcomeShows, decide_of}
+use Rattle.rendezvous_model.specs.Outcome.{Outcome, OutcomeShows, end_of, decide_of}
 use Rattle.rendezvous_model.specs.Verdict.{LoadVerdict, Done, end_at, halted_at, unfinished_at, refused_at, left_with_error}
 use Rattle.rendezvous_model.specs.Verdict as verdict
 use Rattle.rendezvous_rule.specs.Shown.{shown_by}
@@ -40,7 +40,7 @@ use Rattle.rule_laws.proofs.Facts.{none_settled}
 use Rattle.run_laws.proofs.Tables.{put_same, put_other, same_or_not}
 use Rattle.run_laws.proofs.Model.{change, changed}
 use Rattle.play_laws.specs.Lawful.{Lawful, EventLaw}
-use Rattle.play_laws.specs.Stuck.{rounds_in}
+use Rattle.play_laws.specs.Stuck.{rounds_in, EnoughRoundsFinish}
 use Rattle.play_laws.specs.Patient.{NoneRefuses, InTimeIsDone, PatientIsDone, is_in_time}
 use Rattle.rule_laws.proofs.Opening.{opening_is_shown}
 use Rattle.play_laws.proofs.EachEvent.{event_law}
@@ -322,3 +322,23 @@ patient_unlisted plan beats outcome sound padded patient enough shows =
 pub patient_is_done : PatientIsDone
 patient_is_done plan beats outcome sound padded none patient enough shows =
     in_time_is_done plan [] outcome sound (patient_unlisted plan beats outcome sound padded patient enough shows) none
+
+-- whatever the schedule, rounds enough leave no end unfinished
+finished_end : (place : Place) → is_unfinished place ≡ false → end_of place ≢ ends.Unfinished
+finished_end Out e f = cc
+finished_end In e f = cc
+finished_end (Left x) e f = cc
+finished_end Halted e f = cc
+finished_end Withdrawn e f = cc
+finished_end Absent e f = cc
+
+pub enough_rounds_finish : EnoughRoundsFinish
+enough_rounds_finish plan beats outcome sound padded enough shows t within f =
+    let m = last_moment plan (opening_running plan) (events_of plan beats) in
+    let over = enough_rounds plan beats sound padded enough in
+    let end : end_at outcome t ≡ end_of ((shown_by plan m).place t) =
+    ap (λ (xs : List End). get_or xs t ends.Absent) shows.ends
+    ∙ get_or-map-range_with_len (λ u. end_of ((shown_by plan m).place u)) 0 (plan.threads - 0) t t ends.Absent
+    (omega arith) (omega arith) in
+    finished_end ((shown_by plan m).place t)
+    (unfinished_is plan m t ∙ ap not (over_each plan m t over within)) (sym end ∙ f)

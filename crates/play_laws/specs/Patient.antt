@@ -1,5 +1,5 @@
 -- A run in which no thread runs out of patience.
-use Rattle.std.specs.Prelude.{◌≡◌, ℕ, ◌+◌, ◌*◌, ◌≤◌, Bool, true, false, List, Some, All}
+use Rattle.std.specs.Prelude.{◌≡◌, ℕ, Bool, true, false, List, Some, All}
 use Rattle.rendezvous_steps.specs.declared.items.Event.TheVariants.{Timeout}
 use Rattle.rendezvous_steps.specs.declared.ends.Beat.{Beat}
 use Rattle.rendezvous_steps.specs.declared.ends.Beat.TheVariants.{One}
@@ -11,7 +11,7 @@ use Rattle.rendezvous_model.specs.Verdict.{LoadVerdict, Done}
 use Rattle.rendezvous_rule.specs.Shown.{shown_by}
 use Rattle.rendezvous_rule.specs.Ran.{Unlisted, events_of}
 use Rattle.rendezvous_runs.specs.Play.{last_moment}
-use Rattle.play_laws.specs.Stuck.{rounds_in}
+use Rattle.play_laws.specs.Stuck.{IsEnough}
 
 -- no group with an offer refuses its write
 abbrev pub NoneRefuses : Plan → Type 0
@@ -36,6 +36,6 @@ PatientIsDone =
     Padded plan →
     NoneRefuses plan →
     All (λ beat. is_in_time beat ≡ true) beats →
-    20 * plan.threads + 8 ≤ rounds_in beats →
+    IsEnough plan beats →
     OutcomeShows plan outcome (shown_by plan (last_moment plan (opening_running plan) (events_of plan beats))) →
     LoadVerdict plan outcome Done
