@@ -6,4 +6,5 @@ pub mod Over
 pub mod Searches
 pub mod Shown
 pub mod Plays
-pub mod Grows
+pub mod Listing
+pub mod Lawfully

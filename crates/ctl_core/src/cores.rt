@@ -24,9 +24,11 @@ pub struct Core<'a> {
 }
 
 impl<'a> Core<'a> {
-    ghost use Rattle.std.specs.Prelude.{IfOk, ◌<◌, if◌then◌else◌};
+    ghost use Rattle.std.specs.Prelude.{IfOk, IsNone, IsTrue, ◌<◌, ◌↔◌, if◌then◌else◌};
     ghost use Rattle.rendezvous_steps.specs.Events.{happens, opening_running};
-    ghost use Rattle.rendezvous_model.specs.RoundStep.{thread_of};
+    ghost use Rattle.rendezvous_model.specs.RoundStep.{Round, thread_of};
+    ghost use Rattle.rendezvous_model.specs.Safe.{Safe};
+    ghost use Rattle.play_laws.specs.Lawful.{Lawful};
     ghost use Rattle.rendezvous_runs.specs.Play.{is_over};
     ghost use Rattle.rendezvous_model.specs.Outcome.{OutcomeShows};
     ghost use Rattle.ctl_core.specs.Outcomes.{outcome_of};
@@ -38,6 +40,7 @@ impl<'a> Core<'a> {
         ensures plan { IfOk result (λ core. plan_in core ≡ plan_of plan.now) }
         ensures opening { IfOk result (λ core. moment_in core ≡ opening_running (plan_of plan.now)) }
         ensures spent { IfOk result (λ core. spent_in core ≡ 0) }
+        ensures lawful { IfOk result (λ core. Lawful (plan_in core) (moment_in core)) }
     {
         let moment = Moment::new(alloc, plan)?;
         Ok(Core {
@@ -54,7 +57,8 @@ impl<'a> Core<'a> {
         self.plan.threads
     }
 
-    /// Does one event, as the definition says. It takes no memory.
+    /// Does one event, as the definition says. It takes no memory. From a moment that meets the rule between steps, as each
+    /// has that events lead to, the item is a step of the model between the states that are shown, and the next is safe.
     pub fn event(&mut self, event: Event) -> Item
         requires { thread_of event < (plan_in self.old).threads }
         ensures thread { result.thread ≡ thread_of event }
@@ -62,6 +66,9 @@ impl<'a> Core<'a> {
         ensures moment { moment_in self.new ≡ (happens (plan_in self.old) event (moment_in self.old)).0 }
         ensures plan { plan_in self.new ≡ plan_in self.old }
         ensures spent { spent_in self.new ≡ spent_in self.old + (if is_counted result.what then 1 else 0) }
+        ensures lawful { Lawful (plan_in self.old) (moment_in self.old) → Lawful (plan_in self.new) (moment_in self.new) }
+        ensures round { Lawful (plan_in self.old) (moment_in self.old) → Round (plan_in self.old) (state_in self.old) event result.what (state_in self.new) }
+        ensures safe { Lawful (plan_in self.old) (moment_in self.old) → Safe (plan_in self.new) (state_in self.new) }
     {
         let item = self.moment.event(self.plan, event);
         if is_counted(item.what) {
@@ -84,9 +91,10 @@ impl<'a> Core<'a> {
         self.moment.first_unfinished(self.plan)
     }
 
-    /// The lowest unfinished thread whose next step is no Poll. It takes no memory.
+    /// The lowest unfinished thread whose next step is no Poll. It takes no memory. There is none exactly where it is over.
     pub fn ready(&self) -> Option<u16>
-        ensures { result ≡ lowest_ready (plan_in self.now) (moment_in self.now) }
+        ensures lowest { result ≡ lowest_ready (plan_in self.now) (moment_in self.now) }
+        ensures none { Lawful (plan_in self.now) (moment_in self.now) → (IsNone result ↔ IsTrue (is_over (plan_in self.now) (moment_in self.now))) }
     {
         self.moment.first_ready(self.plan)
     }

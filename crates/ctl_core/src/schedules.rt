@@ -1,6 +1,6 @@
 //! A rendezvous over a schedule, with a line for each item.
 
-ghost use Rattle.std.specs.Prelude.{◌≡◌, ◌<◌, ◌≤◌, ◌-◌, All, [], ◌∷◌, map};
+ghost use Rattle.std.specs.Prelude.{◌≡◌, true, ◌<◌, ◌≤◌, ◌-◌, All, [], ◌∷◌, map};
 ghost use Rattle.std.specs.List.{range_with_len};
 ghost use Rattle.rendezvous_steps.specs.Plan.{threads_from};
 ghost use Rattle.rendezvous_steps.specs.declared.items.Event.TheVariants.{Step as StepOf};
@@ -10,11 +10,13 @@ ghost use Rattle.rendezvous_rule.specs.Runs.{BeatInRange};
 ghost use Rattle.ctl_words.specs.Plans.{plan_of, IsSound};
 ghost use Rattle.ctl_core.specs.Cores.{plan_in, moment_in};
 ghost use Rattle.ctl_core.specs.Playing.{Plays, PlayedTo};
+ghost use Rattle.item_text.specs.Items.{item_line as line_of};
+ghost use Rattle.play_laws.proofs.Exist.{always_runs as runs_always, ran_grows};
 
 use crate::cores::Core;
 use crate::item_lines::item_line;
 use crate::outcomes::Outcome;
-use crate::runs::RunAnswer;
+use crate::runs::{Rendezvous, RunAnswer};
 use ctl_words::Plan;
 use rendezvous_steps::{Beat, Event};
 use std::alloc::Global;
@@ -31,7 +33,7 @@ impl Scheduled {
     }
 
     /// Plays a whole schedule. After a write fault whole lines and a front of the next one were written.
-    pub fn play<S: Sink>(
+    fn play<S: Sink>(
         &mut self,
         alloc: Global,
         plan: &Plan,
@@ -47,6 +49,32 @@ impl Scheduled {
         play_beats(&mut core, beats, out)?;
         Ok(core.outcome())
     }
+}
+
+impl Rendezvous for Scheduled {
+    ghost lists = { true };
+
+    ghost limit = { λ _. 256 };
+
+    ghost runs = { λ _. [] };
+
+    fn most(&self) -> u16 {
+        256
+    }
+
+    fn run<S: Sink>(
+        &mut self,
+        alloc: Global,
+        plan: &Plan,
+        beats: &[Beat],
+        out: &mut S,
+    ) -> Result<Outcome, RunAnswer> {
+        self.play(alloc, plan, beats, out)
+    }
+
+    ghost always_runs = { runs_always line_of true };
+
+    ghost never_falls = { ran_grows line_of true };
 }
 
 /// Plays beats, as far as some thread is unfinished.

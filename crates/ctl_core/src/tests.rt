@@ -1,7 +1,8 @@
 //! Worked schedules.
 
 use crate::{
-    Beat, Core, End, Event, Outcome, Plan, RunAnswer, Scheduled, ThreadResult, are_in_range,
+    Beat, Core, End, Event, Outcome, Plan, Rendezvous, RunAnswer, Scheduled, ThreadResult,
+    are_in_range,
 };
 use arrayvec::ArrayVec;
 use rendezvous_steps::Kind;
@@ -301,7 +302,9 @@ fn play(
     let schedule = beats.as_slice();
     assert!(rt; plan.sound());
     assert!(rt; are_in_range(schedule, plan.threads));
-    Ok(Scheduled::new().play(alloc, plan, schedule, out))
+    let mut scheduled = Scheduled::new();
+    assert!(rt; plan.threads <= scheduled.most());
+    Ok(scheduled.run(alloc, plan, schedule, out))
 }
 
 #[test]

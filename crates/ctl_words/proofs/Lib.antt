@@ -2,4 +2,4 @@ pub mod Writes
 pub mod Counts
 pub mod Soundness
 pub mod Openings
-mod TablesEnd
+pub mod TablesEnd

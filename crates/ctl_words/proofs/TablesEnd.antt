@@ -1,7 +1,7 @@
 -- What a plan's tables are seen as past their ends.
-use Rattle.std.proofs.Common.{◌≡◌, ℕ, ◌≤◌, length, None, Option, refl, ap, ◌∙◌, arith}
+use Rattle.std.proofs.Common.{◌≡◌, ℕ, ◌≤◌, None, Option, ap, ◌∙◌, arith}
 use Rattle.std.proofs.lemmas.Option.{slice_get_past}
-use Rattle.std.specs.Prelude.{slice_get, unwrap_or}
+use Rattle.std.specs.Prelude.{unwrap_or}
 use Rattle.rendezvous_steps.specs.declared.steps.Kind.{Kind}
 use Rattle.rendezvous_steps.specs.declared.steps.Kind.TheVariants.{Absent}
 use Rattle.rendezvous_steps.specs.Padded.{Padded}

@@ -1,0 +1,8 @@
+use Rattle.ctl_words.specs.Plans.{plan_of}
+use Rattle.ctl_words.proofs.TablesEnd.{padded}
+use Rattle.ctl_core.proofs.Listing.{schedule_is_run}
+use Rattle.ctl_core.proofs.schedules.ScheduledRendezvous.run.Goals as goal
+
+pub returns-clause-answer : goal.returns-clause-answer
+returns-clause-answer g c =
+    schedule_is_run g.S.Sink.stands g.S.Sink.faults (plan_of c.args.plan.now) c.args.beats.now _ _ c.args.out.now c.play.new.out c.play.result c.requires.sound.sound (padded c.args.plan.now c.requires.sound) c.play.ensures.later c.play.ensures.played
