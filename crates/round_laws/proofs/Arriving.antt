@@ -33,10 +33,6 @@ use Rattle.round_laws.proofs.Arrivals.{one_less, few_awaited, awaited_less, offl
 
 -- What is so once an Online thread more has arrived.
 
-grown_here :
-    (plan : Plan) (arrived : ℕ → Bool) (t : ℕ) → AllOnlineHere plan arrived → AllOnlineHere plan (put arrived t true)
-grown_here plan arrived t here u online = grows arrived t u (here u online)
-
 grown_all : (plan : Plan) (arrived : ℕ → Bool) (t : ℕ) → AllHere plan arrived → AllHere plan (put arrived t true)
 grown_all plan arrived t here u offline = grows arrived t u (here u offline)
 

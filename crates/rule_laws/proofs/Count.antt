@@ -101,7 +101,3 @@ count_some p a n t low high passes =
       | inl none ↦ absurd (true≢false (sym passes ∙ count_none p a n t none low high))
       | inr some ↦ some
     ]
-
--- no more pass two tests than pass the first
-pub count_both : (p q : ℕ → Bool) (a n : ℕ) → count (λ u. p u && q u) a n ≤ count p a n
-count_both p q a n = let e = count_split p q a n in omega arith

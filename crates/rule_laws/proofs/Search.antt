@@ -1,9 +1,9 @@
 -- The first number of a range that passes a test.
-use Rattle.std.proofs.Common.{◌≡◌, ℕ, zero, suc, ◌+◌, ◌-◌, ◌<◌, ◌≤◌, Bool, true, false, cond, Option, Some, None, find, refl, ap, sym, ◌∙◌, arith, ◌⊎◌, inl, inr, true≢false}
+use Rattle.std.proofs.Common.{◌≡◌, ℕ, zero, suc, ◌+◌, ◌<◌, ◌≤◌, Bool, true, false, cond, Option, Some, None, find, refl, ap, sym, ◌∙◌, arith, ◌⊎◌, inl, inr}
 use Rattle.std.specs.List.{range_with_len}
 use Rattle.rendezvous_steps.specs.declared.steps.Kind.{Kind}
 use Rattle.rendezvous_steps.specs.declared.steps.Kind.TheVariants.{Online, Offline, Absent}
-use Rattle.rendezvous_steps.specs.Plan.{Plan, is_offline, offline_from}
+use Rattle.rendezvous_steps.specs.Plan.{Plan, is_offline}
 use Rattle.rendezvous_steps.specs.Padded.{Padded}
 use Rattle.std.proofs.lemmas.Bool.{cases_lt}
 use Rattle.rule_laws.proofs.Count.{same_or_not}
@@ -76,24 +76,6 @@ online_in_range plan padded k online =
       | inr past ↦ let same : Online ≡ Absent = sym online ∙ padded.no_thread k past in cc
       | inl within ↦ within
     ]
-
--- the first Offline thread from k on: no Offline thread from k on stands before it
-pub offline_first :
-    (plan : Plan) → Padded plan → (a k : ℕ) → a ≤ plan.threads → offline_from plan a ≡ Some k →
-    First (λ u. is_offline (plan.kind u)) a plan.threads k
-unfolding offline_from
-offline_first plan padded a k within e =
-    let first = found (λ u. is_offline (plan.kind u)) a (plan.threads - a) k e in
-    let high' : k < a + (plan.threads - a) = first.high in
-    record { passes = first.passes; low = first.low; high = omega arith; before = first.before }
-
-pub offline_none :
-    (plan : Plan) → Padded plan → (a : ℕ) → offline_from plan a ≡ None → (k : ℕ) → a ≤ k → plan.kind k ≡ Offline → ⊥
-unfolding offline_from
-offline_none plan padded a e k low offline =
-    let within = offline_in_range plan padded k offline in
-    let fails = found_none (λ u. is_offline (plan.kind u)) a (plan.threads - a) e k low (omega arith) in
-    true≢false (sym (ap is_offline offline) ∙ fails)
 
 pub is_offline_kind : (kind : Kind) → is_offline kind ≡ true → kind ≡ Offline
 is_offline_kind Online e = cc
