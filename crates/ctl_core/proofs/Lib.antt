@@ -8,3 +8,4 @@ pub mod Shown
 pub mod Plays
 pub mod Listing
 pub mod Lawfully
+pub mod Determined

@@ -3,3 +3,4 @@ pub mod Runs
 pub mod Moments
 pub mod Cores
 pub mod Playing
+pub mod Laws

@@ -10,6 +10,7 @@
 
 mod cores;
 mod item_lines;
+mod laws;
 mod looks;
 mod moments;
 mod outcomes;
@@ -19,6 +20,7 @@ mod schedules;
 
 pub use cores::Core;
 pub use ctl_words::Plan;
+pub use laws::{a_listed_run_is_played, enough_rounds_finish};
 pub use outcomes::Outcome;
 pub use ranges::are_in_range;
 pub use rendezvous_steps::{Beat, End, Event, Item, ThreadResult, What};
