@@ -22,7 +22,8 @@ abbrev pub IsTaken : (ℕ → Bool) → (ℕ → Bool) → ℕ → ℕ → Optio
 IsTaken was_free is_free blocks needed None =
     (lowest_of was_free blocks needed ≡ None) × ((block : ℕ) → is_free block ≡ was_free block)
 IsTaken was_free is_free blocks needed (Some first) =
-    (lowest_of was_free blocks needed ≡ Some first) × ((block : ℕ) → is_free block ≡ (was_free block && not (is_within first needed block)))
+    (lowest_of was_free blocks needed ≡ Some first)
+    × ((block : ℕ) → is_free block ≡ (was_free block && not (is_within first needed block)))
 
 -- so many blocks were given back, from the first on
 abbrev pub IsGivenBack : (ℕ → Bool) → (ℕ → Bool) → ℕ → ℕ → Type 0

@@ -38,7 +38,8 @@ AllEnd to (run ∷ runs) = (end_of run ≤ to) × AllEnd to runs
 
 pub AreSpaced-prop : (from to : ℕ) (runs : List Run) → IsProp (AreSpaced from to runs)
 AreSpaced-prop from to [] = Unit-prop
-AreSpaced-prop from to (run ∷ runs) = ×_prop (×_prop le_prop (×_prop le_prop le_prop)) (AreSpaced-prop (end_of run + 1) to runs)
+AreSpaced-prop from to (run ∷ runs) =
+    ×_prop (×_prop le_prop (×_prop le_prop le_prop)) (AreSpaced-prop (end_of run + 1) to runs)
 
 -- the run at an index is the lowest with so many free blocks
 pub record IsFit (runs : List Run) (blocks needed at : ℕ) : Type 0 where

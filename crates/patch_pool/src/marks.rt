@@ -57,7 +57,8 @@ impl Marks {
     /// Marks so many blocks, from the first on.
     fn mark(&mut self, first: u32, count: u32, free: bool)
         requires { first + count ≤ vec_len self.old.marks }
-        ensures marked { (block : ℕ) → is_marked self.new.marks.items block ≡ (if is_within first count block then free else is_marked self.old.marks.items block) }
+        ensures marked { (block : ℕ) → is_marked self.new.marks.items block
+            ≡ (if is_within first count block then free else is_marked self.old.marks.items block) }
         ensures size { vec_len self.new.marks ≡ vec_len self.old.marks }
     {
         for block in first..first + count {
@@ -67,7 +68,8 @@ impl Marks {
 
     /// Takes the lowest run of so many free blocks, and answers the first.
     pub fn take(&mut self, needed: u32) -> Option<u32>
-        ensures taken { IsTaken (is_marked self.old.marks.items) (is_marked self.new.marks.items) (vec_len self.old.marks) needed result }
+        ensures taken { IsTaken (is_marked self.old.marks.items) (is_marked self.new.marks.items)
+            (vec_len self.old.marks) needed result }
         ensures size { vec_len self.new.marks ≡ vec_len self.old.marks }
     {
         let Some(first) = self.lowest(needed) else {

@@ -1,7 +1,7 @@
-//! A pool with one mark for each block: the plain body that `PatchPool` is compared with. It has the same contract, and each
-//! of its calls goes over the blocks.
-ghost use Rattle.std.specs.Prelude.{◌≡◌, ◌<◌, ◌≤◌, ◌↔◌, ℕ, true, Some, length, vec_len, IsErr, IfOk};
-ghost use Rattle.region_steps.specs.Region.{no_patches, begins_at, blocks_of, take_out, held, IsLongestFree, Stands};
+//! A pool with one mark for each block: the plain body that `PatchPool` is compared with. It has the same contract, and
+//! a put goes over the blocks.
+ghost use Rattle.std.specs.Prelude.{◌≡◌, ◌<◌, ◌≤◌, true, Some, length, vec_len, IfOk};
+ghost use Rattle.region_steps.specs.Region.{no_patches, begins_at, take_out, held, IsLongestFree, Stands};
 ghost use Rattle.patch_pool.specs.Free.{AreFree};
 ghost use Rattle.patch_pool.specs.Bytes.{patches_in};
 ghost use Rattle.patch_pool.specs.Marks.{is_marked};
@@ -19,13 +19,14 @@ pub struct PlainPool {
     free: Marks,
     ghost size: { vec_len region.lengths ≡ vec_len free.marks },
     ghost stand: { Stands (patches_in region.bytes.items region.lengths.items) (vec_len free.marks) },
-    ghost free_are: { AreFree (is_marked free.marks.items) (patches_in region.bytes.items region.lengths.items) (vec_len free.marks) },
+    ghost free_are: { AreFree (is_marked free.marks.items)
+        (patches_in region.bytes.items region.lengths.items) (vec_len free.marks) },
 }
 
 #[tactic(auto, unfolding(crate::specs::Plain::patches_of, crate::specs::Plain::blocks_in))]
 impl PlainPool {
     ghost use Rattle.patch_pool.specs.Plain.{patches_of, blocks_in};
-    ghost use Rattle.patch_pool.specs.Steps.{IsPut};
+    ghost use Rattle.patch_pool.specs.Steps.{IsPut, AllStay, IsFullWhereShort};
 
     /// A region of 1 to 65,536 blocks, without patches. No other call takes memory.
     pub fn new(alloc: Global, blocks: u32) -> Result<PlainPool, NoMemory>
@@ -47,14 +48,14 @@ impl PlainPool {
         self.free.marks.len() as u32
     }
 
-    /// Copies a patch of 1 to 67,108,864 bytes to the lowest run of free blocks that has as many as it needs; the patches
-    /// that are held stay. Where there is no such run the pool is full, and stays as it was.
+    /// Copies a patch of 1 to 67,108,864 bytes to the lowest run of free blocks that has as many as it needs; the
+    /// patches that are held stay. Where there is no such run the pool is full, and stays as it was.
     pub fn put(&mut self, bytes: &[u8]) -> Result<PatchId, PoolFull>
         requires some { 0 < length bytes.now }
         requires short { length bytes.now ≤ 67108864 }
         ensures put { IsPut (patches_of self.old) (patches_of self.new) (blocks_in self.old) bytes.now result }
-        ensures stay { (other : ℕ) → begins_at (patches_of self.old) other ≡ true → patches_of self.new other ≡ patches_of self.old other }
-        ensures full { (longest : ℕ) → IsLongestFree (patches_of self.old) (blocks_in self.old) longest → IsErr result ↔ (longest < blocks_of bytes.now) }
+        ensures stay { AllStay (patches_of self.old) (patches_of self.new) }
+        ensures full { IsFullWhereShort (patches_of self.old) (blocks_in self.old) bytes.now result }
         ensures size { blocks_in self.new ≡ blocks_in self.old }
     {
         let needed = blocks_for(bytes.len());

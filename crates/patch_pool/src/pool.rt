@@ -1,5 +1,5 @@
-ghost use Rattle.std.specs.Prelude.{◌≡◌, ◌<◌, ◌≤◌, ◌↔◌, ℕ, true, Some, length, vec_len, IsErr, IfOk};
-ghost use Rattle.region_steps.specs.Region.{no_patches, begins_at, blocks_of, take_out, held, IsLongestFree, Stands};
+ghost use Rattle.std.specs.Prelude.{◌≡◌, ◌<◌, ◌≤◌, true, Some, length, vec_len, IfOk};
+ghost use Rattle.region_steps.specs.Region.{no_patches, begins_at, take_out, held, IsLongestFree, Stands};
 ghost use Rattle.patch_pool.specs.Free.{AreFree};
 ghost use Rattle.patch_pool.specs.Bytes.{patches_in};
 ghost use Rattle.patch_pool.specs.Runs.{is_in};
@@ -26,13 +26,14 @@ pub struct PatchPool {
     runs: Runs,
     ghost size: { vec_len region.lengths ≡ runs.blocks },
     ghost stand: { Stands (patches_in region.bytes.items region.lengths.items) runs.blocks },
-    ghost free_are: { AreFree (is_in runs.runs.items) (patches_in region.bytes.items region.lengths.items) runs.blocks },
+    ghost free_are: { AreFree (is_in runs.runs.items)
+        (patches_in region.bytes.items region.lengths.items) runs.blocks },
 }
 
 #[tactic(auto, unfolding(crate::specs::Pool::patches_of, crate::specs::Pool::blocks_in))]
 impl PatchPool {
     ghost use Rattle.patch_pool.specs.Pool.{patches_of, blocks_in};
-    ghost use Rattle.patch_pool.specs.Steps.{IsPut};
+    ghost use Rattle.patch_pool.specs.Steps.{IsPut, AllStay, IsFullWhereShort};
 
     /// A region of 1 to 65,536 blocks, without patches. No other call takes memory.
     pub fn new(alloc: Global, blocks: u32) -> Result<PatchPool, NoMemory>
@@ -55,14 +56,14 @@ impl PatchPool {
         self.runs.blocks
     }
 
-    /// Copies a patch of 1 to 67,108,864 bytes to the lowest run of free blocks that has as many as it needs; the patches
-    /// that are held stay. Where there is no such run the pool is full, and stays as it was.
+    /// Copies a patch of 1 to 67,108,864 bytes to the lowest run of free blocks that has as many as it needs; the
+    /// patches that are held stay. Where there is no such run the pool is full, and stays as it was.
     pub fn put(&mut self, bytes: &[u8]) -> Result<PatchId, PoolFull>
         requires some { 0 < length bytes.now }
         requires short { length bytes.now ≤ 67108864 }
         ensures put { IsPut (patches_of self.old) (patches_of self.new) (blocks_in self.old) bytes.now result }
-        ensures stay { (other : ℕ) → begins_at (patches_of self.old) other ≡ true → patches_of self.new other ≡ patches_of self.old other }
-        ensures full { (longest : ℕ) → IsLongestFree (patches_of self.old) (blocks_in self.old) longest → IsErr result ↔ (longest < blocks_of bytes.now) }
+        ensures stay { AllStay (patches_of self.old) (patches_of self.new) }
+        ensures full { IsFullWhereShort (patches_of self.old) (blocks_in self.old) bytes.now result }
         ensures size { blocks_in self.new ≡ blocks_in self.old }
     {
         let needed = blocks_for(bytes.len());

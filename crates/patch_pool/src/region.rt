@@ -37,8 +37,8 @@ fn copy_over(bytes: &mut [u8], at: usize, new: &[u8])
     bytes[at..at + new.len()].copy_from_slice(new);
 }
 
-/// The bytes of all blocks; for each block the length in bytes of the patch that begins there, 0 where none does; and how
-/// many patches there are.
+/// The bytes of all blocks; for each block the length in bytes of the patch that begins there, 0 where none does; and
+/// how many patches there are.
 #[derive(Debug, Drop)]
 pub struct Region {
     pub bytes: Vec<u8>,
@@ -87,8 +87,10 @@ impl Region {
     pub fn put(&mut self, first: u32, bytes: &[u8])
         requires some { 0 < length bytes.now }
         requires inside { first + blocks_of bytes.now ≤ vec_len self.old.lengths }
-        requires free { is_free_run (patches_in self.old.bytes.items self.old.lengths.items) (blocks_of bytes.now) first ≡ true }
-        ensures put { patches_in self.new.bytes.items self.new.lengths.items ≡ put_at (patches_in self.old.bytes.items self.old.lengths.items) first bytes.now }
+        requires free { is_free_run (patches_in self.old.bytes.items self.old.lengths.items) (blocks_of bytes.now) first
+            ≡ true }
+        ensures put { patches_in self.new.bytes.items self.new.lengths.items
+            ≡ put_at (patches_in self.old.bytes.items self.old.lengths.items) first bytes.now }
         ensures size { vec_len self.new.lengths ≡ vec_len self.old.lengths }
     {
         let at = first as usize * 1024;
@@ -101,7 +103,8 @@ impl Region {
     pub fn take_out(&mut self, first: u32) -> u32
         requires { begins_at (patches_in self.old.bytes.items self.old.lengths.items) first ≡ true }
         ensures blocks { result ≡ width (patches_in self.old.bytes.items self.old.lengths.items first) }
-        ensures out { patches_in self.new.bytes.items self.new.lengths.items ≡ take_out (patches_in self.old.bytes.items self.old.lengths.items) first }
+        ensures out { patches_in self.new.bytes.items self.new.lengths.items
+            ≡ take_out (patches_in self.old.bytes.items self.old.lengths.items) first }
         ensures size { vec_len self.new.lengths ≡ vec_len self.old.lengths }
     {
         let blocks = blocks_for(self.lengths[first as usize] as usize);

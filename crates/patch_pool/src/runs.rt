@@ -54,7 +54,8 @@ impl Runs {
     /// The index of the first run that has so many blocks: it begins where the lowest run of so many free blocks does.
     fn first_fit(&self, needed: u32) -> Option<usize>
         requires { 0 < needed }
-        ensures { MatchOption result (lowest_of (is_in self.now.runs.items) self.now.blocks needed ≡ None) (λ at. IsFit self.now.runs.items self.now.blocks needed at) }
+        ensures { MatchOption result (lowest_of (is_in self.now.runs.items) self.now.blocks needed ≡ None)
+            (λ at. IsFit self.now.runs.items self.now.blocks needed at) }
     {
         self.runs.iter().position(|run| run.len >= needed)
     }

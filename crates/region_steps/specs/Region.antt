@@ -59,4 +59,5 @@ take_out patches first block = if block == first then None else patches block
 pub record Stands (patches : Patches) (blocks : ℕ) : Type 0 where
   pub has_bytes : (first : ℕ) (bytes : List ℕ) → patches first ≡ Some bytes → 0 < length bytes
   pub is_inside : (first : ℕ) (bytes : List ℕ) → patches first ≡ Some bytes → first + blocks_of bytes ≤ blocks
-  pub are_apart : (first other block : ℕ) → first ≢ other → covers patches first block ≡ true → covers patches other block ≡ false
+  pub are_apart : (first other block : ℕ) → first ≢ other
+      → covers patches first block ≡ true → covers patches other block ≡ false
