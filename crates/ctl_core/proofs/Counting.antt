@@ -1,5 +1,6 @@
 -- How an operation changes which threads are unfinished.
 use Rattle.std.proofs.Common.{◌≡◌, ◌≢◌, ℕ, zero, suc, ◌+◌, ◌-◌, ◌==◌, ◌<◌, ◌≤◌, ◌^◌, Bool, true, false, not, cond, if◌then◌else◌, count_by, Some, None, refl, sym, ap, ◌∙◌, subst, arith, inl, inr}
+use Rattle.std.proofs.Math.Path.{fun_ext}
 use Rattle.std.proofs.lemmas.Bool.Decides.{nat_tests, eqb_tells}
 use Rattle.std.proofs.lemmas.List.Sums.{sum_by-cons, count_by-le-length}
 use Rattle.std.proofs.lemmas.List.FromFn.{length-range_with_len}
@@ -7,6 +8,7 @@ use Rattle.std.specs.List.{range_with_len}
 use Rattle.rendezvous_steps.specs.declared.operations.Word.{Word}
 use Rattle.rendezvous_steps.specs.declared.operations.Word.TheVariants.{Arrive, OffIn, Decide, Mode, Ctrl, Nmi, Rev, Res}
 use Rattle.rendezvous_steps.specs.declared.operations.Op.{Op}
+use Rattle.rendezvous_steps.specs.declared.operations.Op.TheVariants.{Load}
 use Rattle.rendezvous_steps.specs.Plan.{Plan, threads_from}
 use Rattle.rendezvous_steps.specs.Words.{touched, written, put_word, words_after}
 use Rattle.rendezvous_steps.specs.Events.{shows_finished}
@@ -141,3 +143,29 @@ pub recount : (plan : Plan) (words after : Word → ℕ) (t count new : ℕ) (wa
 recount plan words after t count new was is r e =
     let e2 : new + cond (shows_finished plan after t) 1 0 ≡ count + cond (shows_finished plan words t) 1 0 = rw (← r.was_finished, ← r.is_finished) e in
     omega (arith, r.counted, r.moved, e2)
+
+-- A load leaves each word as it was.
+
+same_by : (u t : ℕ) (f : ℕ → ℕ) → (if u == t then f t else f u) ≡ f u
+same_by u t f = elim (eqb_tells u t) [
+  | inl e ↦ by_test (u == t) (f t) (f u) (ap f (sym e.1))
+  | inr e ↦ word_apart u t (f t) (f u) e.1
+]
+  where
+    by_test : (b : Bool) (x y : ℕ) → x ≡ y → (if b then x else y) ≡ y
+    by_test true x y e = e
+    by_test false x y e = refl
+
+kept_at : (words : Word → ℕ) (w v : Word) → put_word words w (words w) v ≡ words v
+kept_at words Arrive Arrive = refl
+kept_at words OffIn OffIn = refl
+kept_at words Decide Decide = refl
+kept_at words (Mode t) (Mode u) = same_by u t (λ k. words (Mode k))
+kept_at words (Ctrl t) (Ctrl u) = same_by u t (λ k. words (Ctrl k))
+kept_at words (Nmi t) (Nmi u) = same_by u t (λ k. words (Nmi k))
+kept_at words (Rev g) (Rev h) = same_by h g (λ k. words (Rev k))
+kept_at words (Res g) (Res h) = same_by h g (λ k. words (Res k))
+kept_at words w v = refl
+
+pub load_keeps : (words : Word → ℕ) (w : Word) → words_after words (Load w) ≡ words
+load_keeps words w = fun_ext (kept_at words w)

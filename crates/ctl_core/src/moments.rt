@@ -341,8 +341,33 @@ impl Moment {
         What::Latched
     }
 
-    /// Does the operation. Where it may change a word of a thread, that thread is counted anew.
+    /// Does the operation.
     fn apply(&mut self, plan: &Plan, op: Op) -> u64
+        requires sound { IsSound plan.now }
+        requires there { IsTrue (has_word self.old.words (touched op)) }
+        requires fits { Fits (plan_of plan.now) self.old }
+        requires revisions { (g : ℕ) → words_after (word_of self.old.words) op (Rev g) < 2 ^ 32 }
+        ensures found { result ≡ word_of self.old.words (touched op) }
+        ensures written { word_of self.new.words ≡ words_after (word_of self.old.words) op }
+        ensures same_locals { self.new.locals ≡ self.old.locals }
+        ensures same_latched { self.new.latched ≡ self.old.latched }
+        ensures fits { Fits (plan_of plan.now) self.new }
+    {
+        match op {
+            Op::Load(word) => self.load(word),
+            _ => self.change(plan, op),
+        }
+    }
+
+    /// What a word holds.
+    fn load(&self, word: Word) -> u64
+        ensures { result ≡ word_of self.now.words word }
+    {
+        self.words.get(word)
+    }
+
+    /// Does an operation that may change its word. Where that is a word of a thread, the thread is counted anew.
+    fn change(&mut self, plan: &Plan, op: Op) -> u64
         requires sound { IsSound plan.now }
         requires there { IsTrue (has_word self.old.words (touched op)) }
         requires fits { Fits (plan_of plan.now) self.old }
