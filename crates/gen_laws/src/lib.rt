@@ -5,3 +5,6 @@
 mod laws;
 
 pub use laws::{generated_script_is_read, generated_topology_is_read};
+
+#[cfg(test)]
+mod tests;
