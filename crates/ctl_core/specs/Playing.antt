@@ -21,7 +21,8 @@ use Rattle.ctl_core.specs.Outcomes.{outcome_of}
 abbrev pub lines_of : Plan → Running → List Event → List ℕ
 lines_of plan moment events = flat_map item_line (play plan moment events)
 
--- The lines were written, and the moment is the last one; or a front of the lines was written, and the count of faults rose.
+-- The lines were written, and the moment is the last one; or a front of the lines was written, and the count of faults
+-- rose.
 pub record Plays {D E : Type 0} (stands : D → List ℕ → Type 0) (faults : D → ℕ) (plan : Plan) (before after : Running) (events : List Event) (old new : D) (result : Result (Unit {0}) E) : Type 0 where
   pub wrote : Writes stands faults old new (lines_of plan before events) result
   pub came : OnOk result (after ≡ last_moment plan before events)
@@ -34,7 +35,8 @@ schedule_lines plan beats = lines_of plan (opening_running plan) (events_of plan
 abbrev pub schedule_end : Plan → List Beat → Running
 schedule_end plan beats = last_moment plan (opening_running plan) (events_of plan beats)
 
--- What came of a whole schedule: its lines and what they lead to; a front of them, where the count of faults rose; or nothing.
+-- What came of a whole schedule: its lines and what they lead to; a front of them, where the count of faults rose; or
+-- nothing.
 abbrev pub PlayedTo : {D : Type 0} → (D → List ℕ → Type 0) → (D → ℕ) → Plan → List Beat → D → D → Result Tables RunAnswer → Type 0
 PlayedTo stands faults plan beats old new (Ok outcome) =
     Grew stands old new (schedule_lines plan beats) × OutcomeShows plan (outcome_of outcome) (shown_by plan (schedule_end plan beats))

@@ -57,8 +57,9 @@ impl<'a> Core<'a> {
         self.plan.threads
     }
 
-    /// Does one event, as the definition says. It takes no memory. From a moment that meets the rule between steps, as each
-    /// has that events lead to, the item is a step of the model between the states that are shown, and the next is safe.
+    /// Does one event, as the definition says. It takes no memory. From a moment that meets the rule between steps, as
+    /// each has that events lead to, the item is a step of the model between the states that are shown, and the next is
+    /// safe.
     pub fn event(&mut self, event: Event) -> Item
         requires { thread_of event < (plan_in self.old).threads }
         ensures thread { result.thread ≡ thread_of event }
@@ -91,7 +92,8 @@ impl<'a> Core<'a> {
         self.moment.first_unfinished(self.plan)
     }
 
-    /// The lowest unfinished thread whose next step is no Poll. It takes no memory. There is none exactly where it is over.
+    /// The lowest unfinished thread whose next step is no Poll. It takes no memory. There is none exactly where it is
+    /// over.
     pub fn ready(&self) -> Option<u16>
         ensures lowest { result ≡ lowest_ready (plan_in self.now) (moment_in self.now) }
         ensures none { Lawful (plan_in self.now) (moment_in self.now) → (IsNone result ↔ IsTrue (is_over (plan_in self.now) (moment_in self.now))) }

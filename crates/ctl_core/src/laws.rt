@@ -2,8 +2,9 @@
 
 ghost use Rattle.ctl_core.specs.Laws.{ListedIsPlayed, EnoughRoundsFinish};
 
-/// A plan and beats have one run that prints its items: its text is the lines of the items that the beats' events come to,
-/// and its outcome is that of their last moment. So what is proved of schedules holds of each run that keeps the contract.
+/// A plan and beats have one run that prints its items: its text is the lines of the items that the beats' events come
+/// to, and its outcome is that of their last moment. So what is proved of schedules holds of each run that keeps the
+/// contract.
 pub fn a_listed_run_is_played()
     ensures { ListedIsPlayed }
 {}

@@ -1,10 +1,10 @@
 //! A rendezvous as a whole: what a run of it promises, and a core that plays a schedule event by event.
 //!
-//! - `Rendezvous` is the trait that a session is written over. Its contract is `Ran` of `rendezvous_rule`, and its two laws say
-//!   that every sound plan has a run and that no revision falls in one.
-//! - `Core` does one event after another, each as `happens` of `rendezvous_steps` says, in constant work but for the one step
-//!   that counts the Offline threads, and without memory. From the opening on each item is a step of the model, and each
-//!   state is safe.
+//! - `Rendezvous` is the trait that a session is written over. Its contract is `Ran` of `rendezvous_rule`, and its two
+//!   laws say that every sound plan has a run and that no revision falls in one.
+//! - `Core` does one event after another, each as `happens` of `rendezvous_steps` says, without memory, and in constant
+//!   work but for the one step that counts the Offline threads. From the opening on each item is a step of the model,
+//!   and each state is safe.
 //! - `Scheduled` plays a schedule on a core, and prints each item's line.
 #![tactic(auto)]
 

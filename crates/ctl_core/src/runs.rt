@@ -54,9 +54,9 @@ pub trait Rendezvous {
     fn most(&self) -> u16
         ensures { result ≡ limit self.now };
 
-    /// Runs the rendezvous of a plan. Where it prints its items, they are those of the beats' events, up to the first moment in
-    /// which no thread is unfinished. It answers a write fault only where the sink's count of faults rose; a front of the text
-    /// of a run was then written.
+    /// Runs the rendezvous of a plan. Where it prints its items, they are those of the beats' events, up to the first
+    /// moment in which no thread is unfinished. It answers a write fault only where the sink's count of faults rose; a
+    /// front of the text of a run was then written.
     fn run<S: Sink>(
         &mut self,
         alloc: Global,

@@ -269,8 +269,8 @@ fn plan_with(threads: &[(Kind, u16)], groups: &[Group]) -> Plan {
     plan
 }
 
-/// The beats of a schedule: `s0` a step of thread 0, `t0` its timeout, `n0` an NMI, `r0` an attempt to run ordinary code,
-/// `*9` nine rounds.
+/// The beats of a schedule: `s0` a step of thread 0, `t0` its timeout, `n0` an NMI, `r0` an attempt to run ordinary
+/// code, `*9` nine rounds.
 fn beats(rt: &impl Abort, alloc: Global, words: &str) -> Result<Vec<Beat>, Fail> {
     let mut beats = Vec::new(alloc);
     for word in Words::new(words.as_bytes()) {
