@@ -1,2 +1,9 @@
 mod Refusals
 mod Revisions
+mod Threads
+mod Entries
+mod Putting
+mod Parts
+mod Stands
+mod Groups
+mod Plans

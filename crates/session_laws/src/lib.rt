@@ -2,6 +2,8 @@
 #![tactic(auto)]
 
 ghost use Rattle.session_laws.specs.Laws.{RefusalsKeep, NeverFalls};
+ghost use Rattle.session_laws.specs.Plans.{PlansSound};
+ghost use Rattle.session_laws.specs.Standing.{OpeningStands, StepsStand};
 
 use machine_steps::only_suspend_lets_a_revision_fall;
 
@@ -16,3 +18,16 @@ pub fn only_a_suspend_lets_a_revision_fall()
 {
     only_suspend_lets_a_revision_fall();
 }
+
+/// Before the first command a session's state stands, and each command leads from a state that stands to one that does:
+/// while power is on thread 0 is up, and the region holds just the patches that groups cache.
+pub fn each_state_stands()
+    ensures opening { OpeningStands }
+    ensures steps { StepsStand }
+{}
+
+/// In a state that stands, a load that finds all threads that it needs, offers something and puts each offer into the
+/// region sets out with a plan that a rendezvous may run with.
+pub fn each_plan_is_sound()
+    ensures { PlansSound }
+{}
