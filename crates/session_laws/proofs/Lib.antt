@@ -7,3 +7,4 @@ mod Parts
 mod Stands
 mod Groups
 mod Plans
+mod Steps

@@ -24,8 +24,8 @@ use Rattle.session_steps.specs.State.{Setting, State, machine_of, cached_patches
 use Rattle.session_steps.specs.Offers.{bytes_at, offer_of, plan_of}
 use Rattle.session_steps.specs.Did.{Did, only, by_row, by_bring_ups, kept_where, cached_after, revision_after, loaded}
 use Rattle.session_steps.specs.Step.{BootRow, LoadRow, Boots, Meets, booted, booted_patches, brought_at_boot, met, run_of, online_from, set_refusal}
-use Rattle.session_laws.specs.Standing.{PatchesStand, Standing, StepsStand}
-use Rattle.session_laws.proofs.Threads.{Stand, off_is_not_on, all_stand, remembered_stand, power_stays, one_more_stands, one_down_stands, suspended_stands}
+use Rattle.session_laws.specs.Standing.{PatchesStand, Standing, OpeningStands, StepsStand}
+use Rattle.session_laws.proofs.Threads.{Stand, off_is_not_on, all_stand, remembered_stand, power_stays, one_more_stands, one_down_stands, suspended_stands, switched_off_stands}
 use Rattle.session_laws.proofs.Entries.{entries_have}
 use Rattle.session_laws.proofs.Parts.{IsOffered, at_boot, at_load, something_is_on}
 use Rattle.session_laws.proofs.Putting.{PutsStand, all_put_stand}
@@ -278,3 +278,14 @@ steps_stand lists setting state command.Suspend did partition stands within step
     as_other setting did (by_row state row) step (row_stands setting state row stands (suspend_good setting state stands))
 steps_stand lists setting state (command.Refuse core) did partition stands within step = as_other setting did (set_refusal setting state core true) step (refusal_stands setting state core true stands)
 steps_stand lists setting state (command.Accept core) did partition stands within step = as_other setting did (set_refusal setting state core false) step (refusal_stands setting state core false stands)
+
+pub opening_stands : OpeningStands
+opening_stands setting = record {
+  threads = switched_off_stands (machine_of setting);
+  patches = record {
+    whole = λ block bytes is. absurd cc;
+    stand = λ g block below is. absurd cc;
+    only = λ block some. absurd (some refl);
+  };
+  off_is_empty = λ off block. refl;
+}

@@ -1,0 +1,39 @@
+-- Each command can be done: whatever the files hold, there is something that it does.
+use Rattle.std.specs.Prelude.{◌≡◌, ℕ, Bool, false, List, All}
+use Rattle.uc_topology.specs.Stated.{IsPartition}
+use Rattle.file_reads.specs.Reads.{AreHeld}
+use Rattle.rendezvous_rule.specs.Runs.{AlwaysRuns}
+use Rattle.item_text.specs.Items.{item_line}
+use Rattle.script_text.specs.declared.command.Command.{Command}
+use Rattle.session_steps.specs.State.{Setting, State}
+use Rattle.session_steps.specs.Did.{Did}
+use Rattle.session_steps.specs.Step.{SessionStep}
+use Rattle.session_steps.specs.Session.{Steps, all_reads}
+use Rattle.session_steps.specs.Played.{is_read_fault}
+use Rattle.session_laws.specs.Standing.{Standing, InRange}
+
+-- something that a command does, where the files hold this and each can be read
+pub record SomeStep (lists : Bool) (setting : Setting) (state : State) (one : Command) (holds : List ℕ → List ℕ) : Type 0 where
+  pub did : Did
+  pub step : SessionStep lists setting state one did
+  pub held : AreHeld holds did.reads
+  pub all_read : is_read_fault did.answer ≡ false
+
+-- where every sound plan has a run, every command does something in every state that stands
+abbrev pub StepsExist : Type 0
+StepsExist =
+    (lists : Bool) (setting : Setting) (state : State) (one : Command) (holds : List ℕ → List ℕ) →
+    AlwaysRuns item_line lists →
+    IsPartition setting.machine.stated → Standing setting state → SomeStep lists setting state one holds
+
+-- what the commands of a session do, one after the other, where the files hold this and each can be read
+pub record SomeSession (lists : Bool) (setting : Setting) (commands : List Command) (holds : List ℕ → List ℕ) : Type 0 where
+  pub dids : List Did
+  pub steps : Steps lists setting commands dids
+  pub held : AreHeld holds (all_reads dids)
+
+abbrev pub SessionsExist : Type 0
+SessionsExist =
+    (lists : Bool) (setting : Setting) (commands : List Command) (holds : List ℕ → List ℕ) →
+    AlwaysRuns item_line lists →
+    IsPartition setting.machine.stated → All (λ one. InRange setting one) commands → SomeSession lists setting commands holds
