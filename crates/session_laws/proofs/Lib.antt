@@ -4,7 +4,6 @@ mod Threads
 mod Entries
 mod Putting
 mod Parts
-mod Stands
+pub mod Stands
 mod Groups
-mod Plans
-mod Steps
+pub mod Plans

@@ -73,7 +73,7 @@ module _ (setting : Setting) (state : State) (puts : Puts) (offers : List (Optio
   unfolding plan_of
   kind_past t past = table_past threads (λ t. kind_of (state.hardware.thread t)) kind.Absent t past
 
-  group_in : (t : ℕ) → t < threads → plan.group t ≡ group_at setting.machine.stated t
+  pub group_in : (t : ℕ) → t < threads → plan.group t ≡ group_at setting.machine.stated t
   unfolding plan_of
   group_in t below = table_in threads (machine_of setting).group groups t below
 
@@ -85,7 +85,7 @@ module _ (setting : Setting) (state : State) (puts : Puts) (offers : List (Optio
   unfolding plan_of
   primary_past g past = table_past groups (primary setting.machine.stated) threads g past
 
-  offer_in : (g : ℕ) → g < groups → plan.offer g ≡ put_revision puts (offer_of offers g)
+  pub offer_in : (g : ℕ) → g < groups → plan.offer g ≡ put_revision puts (offer_of offers g)
   unfolding plan_of
   offer_in g below = table_in groups (λ g. put_revision puts (offer_of offers g)) None g below
 
@@ -93,7 +93,7 @@ module _ (setting : Setting) (state : State) (puts : Puts) (offers : List (Optio
   unfolding plan_of
   offer_past g past = table_past groups (λ g. put_revision puts (offer_of offers g)) None g past
 
-  rev0_in : (g : ℕ) → g < groups → plan.rev0 g ≡ state.hardware.rev g
+  pub rev0_in : (g : ℕ) → g < groups → plan.rev0 g ≡ state.hardware.rev g
   unfolding plan_of
   rev0_in g below = table_in groups state.hardware.rev 0 g below
 

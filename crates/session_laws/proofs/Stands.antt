@@ -134,7 +134,7 @@ refusal_stands setting state core on stands = record { threads = stands.threads;
 
 -- ---- the region
 
-cached_is : (groups : ℕ) (cached : ℕ → Option ℕ) (block g : ℕ) → g < groups → cached g ≡ Some block → is_cached groups cached block ≡ true
+pub cached_is : (groups : ℕ) (cached : ℕ → Option ℕ) (block g : ℕ) → g < groups → cached g ≡ Some block → is_cached groups cached block ≡ true
 unfolding is_cached
 cached_is groups cached block g below is =
     any_passes (λ g. is_at block (cached g)) 0 groups g (omega arith) (omega arith) (ap (is_at block) is ∙ eq-eqb block block refl)
@@ -152,7 +152,7 @@ either None new old rev block is = inr is
 either (Some offer) new old rev block is = by_test (offer == rev) new old block is
 
 -- a sweep leaves what is cached, and nothing else
-swept_stays : (groups : ℕ) (cached : ℕ → Option ℕ) (patches : Patches) (block : ℕ) → is_cached groups cached block ≡ true → swept groups cached patches block ≡ patches block
+pub swept_stays : (groups : ℕ) (cached : ℕ → Option ℕ) (patches : Patches) (block : ℕ) → is_cached groups cached block ≡ true → swept groups cached patches block ≡ patches block
 unfolding swept
 swept_stays groups cached patches block is = rw is refl
 

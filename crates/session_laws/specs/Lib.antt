@@ -1,4 +1,3 @@
 pub mod Laws
 pub mod Standing
 pub mod Plans
-pub mod Steps

@@ -4,10 +4,8 @@
 ghost use Rattle.session_laws.specs.Laws.{RefusalsKeep, NeverFalls};
 ghost use Rattle.session_laws.specs.Plans.{PlansSound};
 ghost use Rattle.session_laws.specs.Standing.{OpeningStands, StepsStand};
-ghost use Rattle.session_laws.specs.Steps.{StepsExist, SessionsExist};
 
 use machine_steps::only_suspend_lets_a_revision_fall;
-use round_laws::the_verdict_is_the_first_that_holds;
 
 /// A refusal leaves the machine, the region and what the groups cache as they were.
 pub fn a_refusal_changes_nothing()
@@ -33,12 +31,3 @@ pub fn each_state_stands()
 pub fn each_plan_is_sound()
     ensures { PlansSound }
 {}
-
-/// Whatever the files hold, each command does something in every state that stands, and so does each list of commands from
-/// the opening state on, where every sound plan has a run.
-pub fn each_command_does_something()
-    ensures step { StepsExist }
-    ensures session { SessionsExist }
-{
-    the_verdict_is_the_first_that_holds();
-}

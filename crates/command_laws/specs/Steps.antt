@@ -36,4 +36,5 @@ abbrev pub SessionsExist : Type 0
 SessionsExist =
     (lists : Bool) (setting : Setting) (commands : List Command) (holds : List ℕ → List ℕ) →
     AlwaysRuns item_line lists →
-    IsPartition setting.machine.stated → All (λ one. InRange setting one) commands → SomeSession lists setting commands holds
+    IsPartition setting.machine.stated →
+    All (λ one. InRange setting one) commands → SomeSession lists setting commands holds

@@ -40,7 +40,7 @@ use Rattle.session_steps.specs.Session.{StepsFrom, ends_session, left_to_run, al
 use Rattle.session_steps.specs.Played.{is_read_fault}
 use Rattle.session_laws.specs.Standing.{Standing, InRange, OpeningStands, StepsStand}
 use Rattle.session_laws.specs.Plans.{PlansSound}
-use Rattle.session_laws.specs.Steps.{SomeStep, StepsExist, SessionsExist}
+use Rattle.command_laws.specs.Steps.{SomeStep, StepsExist, SessionsExist}
 
 -- ---- offers for all groups
 

@@ -1,0 +1,3 @@
+mod Steps
+mod Outcomes
+mod Left
