@@ -13,7 +13,9 @@ use Rattle.session_steps.specs.Played.{is_read_fault}
 use Rattle.session_laws.specs.Standing.{Standing, InRange}
 
 -- something that a command does, where the files hold this and each can be read
-pub record SomeStep (lists : Bool) (setting : Setting) (state : State) (one : Command) (holds : List ℕ → List ℕ) : Type 0 where
+pub record SomeStep
+    (lists : Bool) (setting : Setting) (state : State) (one : Command) (holds : List ℕ → List ℕ)
+    : Type 0 where
   pub did : Did
   pub step : SessionStep lists setting state one did
   pub held : AreHeld holds did.reads
@@ -27,7 +29,9 @@ StepsExist =
     IsPartition setting.machine.stated → Standing setting state → SomeStep lists setting state one holds
 
 -- what the commands of a session do, one after the other, where the files hold this and each can be read
-pub record SomeSession (lists : Bool) (setting : Setting) (commands : List Command) (holds : List ℕ → List ℕ) : Type 0 where
+pub record SomeSession
+    (lists : Bool) (setting : Setting) (commands : List Command) (holds : List ℕ → List ℕ)
+    : Type 0 where
   pub dids : List Did
   pub steps : Steps lists setting commands dids
   pub held : AreHeld holds (all_reads dids)

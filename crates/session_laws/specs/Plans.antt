@@ -13,7 +13,10 @@ use Rattle.session_laws.specs.Standing.{Standing}
 
 -- a load that has come as far as its rendezvous: all needed threads are present, all files were read, some group is
 -- offered an entry of them, and the patch of each offer was put into the region
-pub record IsReady (setting : Setting) (state : State) (force : Bool) (names : List (List ℕ)) (reads : List Read) (entries : List Entry) (offers : List (Option ℕ)) (puts : Puts) : Type 0 where
+pub record IsReady
+    (setting : Setting) (state : State) (force : Bool) (names : List (List ℕ)) (reads : List Read)
+    (entries : List Entry) (offers : List (Option ℕ)) (puts : Puts)
+    : Type 0 where
   pub present : AllPresent setting state
   pub read : ReadAll names reads entries
   pub are_offers : AreLoadOffers setting state force entries offers
