@@ -27,7 +27,8 @@ use Rattle.command_laws.specs.Left.{has_succeeded}
 pub record RanLeaves (plan : Plan) (outcome : Outcome) : Type 0 where
   pub a_revision_each : length outcome.revs ≡ plan.groups
   pub dropped : 2 ≤ outcome.decide → (g : ℕ) → g < plan.groups → slice_index outcome.revs g ≡ plan.rev0 g
-  pub succeeded : (t : ℕ) → t < plan.threads → has_succeeded (end_at outcome t) ≡ true → plan.offer (plan.group t) ≡ Some (slice_index outcome.revs (plan.group t))
+  pub succeeded : (t : ℕ) → t < plan.threads → has_succeeded (end_at outcome t) ≡ true →
+      plan.offer (plan.group t) ≡ Some (slice_index outcome.revs (plan.group t))
   pub within : (t : ℕ) → has_succeeded (end_at outcome t) ≡ true → t < plan.threads
 
 -- no success is an end of another kind
@@ -48,17 +49,23 @@ not_both ends.Withdrawn offline success = absurd (false≢true success)
 not_both (ends.Left results.Offline) offline success = absurd (false≢true success)
 not_both end offline success = absurd (false≢true offline)
 
-primary_success : (offer : Option ℕ) (refuses : Bool) (first : ℕ) → has_succeeded (ends.Left (primary_result offer refuses)) ≡ true → offer ≡ Some (revision_after_go offer refuses first)
+primary_success : (offer : Option ℕ) (refuses : Bool) (first : ℕ) →
+    has_succeeded (ends.Left (primary_result offer refuses)) ≡ true →
+    offer ≡ Some (revision_after_go offer refuses first)
 primary_success None refuses first success = absurd (false≢true success)
 primary_success (Some offer) true first success = absurd (false≢true success)
 primary_success (Some offer) false first success = refl
 
-sibling_success : (offer : Option ℕ) (refuses : Bool) (first : ℕ) → has_succeeded (ends.Left (sibling_result offer refuses)) ≡ true → offer ≡ Some (revision_after_go offer refuses first)
+sibling_success : (offer : Option ℕ) (refuses : Bool) (first : ℕ) →
+    has_succeeded (ends.Left (sibling_result offer refuses)) ≡ true →
+    offer ≡ Some (revision_after_go offer refuses first)
 sibling_success None refuses first success = absurd (false≢true success)
 sibling_success (Some offer) true first success = absurd (false≢true success)
 sibling_success (Some offer) false first success = refl
 
-module _ (plan : Plan) (text : List ℕ) (outcome : Outcome) (late : Bool) (sound : Sound plan) (ran : Unlisted plan text outcome late) (t : ℕ) (within : t < plan.threads) (success : has_succeeded (end_at outcome t) ≡ true) where
+module _ (plan : Plan) (text : List ℕ) (outcome : Outcome) (late : Bool) (sound : Sound plan)
+    (ran : Unlisted plan text outcome late) (t : ℕ) (within : t < plan.threads)
+    (success : has_succeeded (end_at outcome t) ≡ true) where
   abbrev g : ℕ
   g = plan.group t
 
@@ -66,23 +73,29 @@ module _ (plan : Plan) (text : List ℕ) (outcome : Outcome) (late : Bool) (soun
   Holds = plan.offer g ≡ Some (slice_index outcome.revs g)
 
   after_a_drop : AfterDrop plan outcome → (kind : Kind) → plan.kind t ≡ kind → Holds
-  after_a_drop drop Online is = fails (end_at outcome t) (ends.Left results.Timeout) (drop.onlines t within is) refl success
+  after_a_drop drop Online is = fails (end_at outcome t) (ends.Left results.Timeout)
+      (drop.onlines t within is) refl success
   after_a_drop drop Offline is = not_both (end_at outcome t) (drop.offlines t within is) success
   after_a_drop drop KindAbsent is = fails (end_at outcome t) ends.Absent ((ran.absents t within).1 is) refl success
 
   -- its group's revision is what a go makes of it
-  as_written : AfterGo plan outcome → plan.offer g ≡ Some (revision_after_go (plan.offer g) (plan.refuse g) (plan.rev0 g)) → Holds
+  as_written : AfterGo plan outcome → plan.offer g ≡ Some (revision_after_go (plan.offer g) (plan.refuse g)
+      (plan.rev0 g)) → Holds
   as_written go is = is ∙ ap Some (sym (go.revisions g (sound.groups_in_range t within)))
 
   moved : (end other : End) → end ≡ other → has_succeeded end ≡ true → has_succeeded other ≡ true
   moved end other same is = sym (ap has_succeeded same) ∙ is
 
-  online_after_a_go : AfterGo plan outcome → plan.kind t ≡ Online → (primary : Bool) → is_primary plan t ≡ primary → Holds
+  online_after_a_go : AfterGo plan outcome → plan.kind t ≡ Online → (primary : Bool) → is_primary plan t ≡ primary →
+      Holds
   online_after_a_go go is true leads =
-      as_written go (primary_success (plan.offer g) (plan.refuse g) (plan.rev0 g) (moved (end_at outcome t) (ends.Left (primary_result (plan.offer g) (plan.refuse g))) (go.primaries t within is leads) success))
+      as_written go (primary_success (plan.offer g) (plan.refuse g) (plan.rev0 g)
+      (moved (end_at outcome t) (ends.Left (primary_result (plan.offer g) (plan.refuse g)))
+      (go.primaries t within is leads) success))
   online_after_a_go go is false follows = elim (go.siblings t within is follows) [
     | inl halted ↦ fails (end_at outcome t) ends.Halted halted refl success
-    | inr left ↦ as_written go (sibling_success (plan.offer g) (plan.refuse g) (plan.rev0 g) (moved (end_at outcome t) (ends.Left (sibling_result (plan.offer g) (plan.refuse g))) left success))
+    | inr left ↦ as_written go (sibling_success (plan.offer g) (plan.refuse g) (plan.rev0 g)
+        (moved (end_at outcome t) (ends.Left (sibling_result (plan.offer g) (plan.refuse g))) left success))
   ]
 
   after_a_go : AfterGo plan outcome → (kind : Kind) → plan.kind t ≡ kind → Holds
@@ -99,7 +112,8 @@ module _ (plan : Plan) (text : List ℕ) (outcome : Outcome) (late : Bool) (soun
     | inr more ↦ after_a_drop (ran.after_drop more) (plan.kind t) refl
   ]
 
-unlisted_leaves : (plan : Plan) (text : List ℕ) (outcome : Outcome) (late : Bool) → Sound plan → Unlisted plan text outcome late → RanLeaves plan outcome
+unlisted_leaves : (plan : Plan) (text : List ℕ) (outcome : Outcome) (late : Bool) → Sound plan →
+    Unlisted plan text outcome late → RanLeaves plan outcome
 unlisted_leaves plan text outcome late sound ran = record {
   a_revision_each = ran.a_revision_each;
   dropped = λ two. (ran.after_drop two).revisions;
@@ -114,7 +128,8 @@ there [] k below = absurd (omega (arith, below))
 there (x ∷ xs) zero below = (x, refl)
 there (x ∷ xs) (suc k) below = there xs k (omega (arith, below))
 
-success_is : (place : Place) → has_succeeded (end_of place) ≡ true → (place ≡ Left results.Updated) ⊎ (place ≡ Left results.Okay)
+success_is : (place : Place) → has_succeeded (end_of place) ≡ true → (place ≡ Left results.Updated)
+    ⊎ (place ≡ Left results.Okay)
 success_is (Left results.Updated) success = inl refl
 success_is (Left results.Okay) success = inr refl
 success_is place success = absurd (false≢true success)
@@ -125,7 +140,9 @@ dropped_is_no_go Going two = absurd (omega (arith, two))
 dropped_is_no_go DroppedByKick two = refl
 dropped_is_no_go (DroppedBy t) two = refl
 
-module _ (line : Item → List ℕ) (plan : Plan) (beats : List Beat) (text : List ℕ) (outcome : Outcome) (law : EventLaw) (opens : OpeningIsLawful) (sound : Sound plan) (padded : Padded plan) (ran : Listed line plan beats text outcome) where
+module _ (line : Item → List ℕ) (plan : Plan) (beats : List Beat) (text : List ℕ) (outcome : Outcome) (law : EventLaw)
+    (opens : OpeningIsLawful) (sound : Sound plan) (padded : Padded plan)
+    (ran : Listed line plan beats text outcome) where
   -- each moment of it is lawful
   lawful : (k : ℕ) → k ≤ length ran.items → Lawful plan (ran.moments k)
   lawful zero within = subst (Lawful plan) (sym ran.played.opens) (opens plan sound padded)
@@ -142,34 +159,45 @@ module _ (line : Item → List ℕ) (plan : Plan) (beats : List Beat) (text : Li
   last = shown_by plan (ran.moments (length ran.items))
 
   safe : Safe plan last
-  safe = ruled_is_safe plan (ran.moments (length ran.items)) sound padded (lawful (length ran.items) (omega arith)).ruled
+  safe = ruled_is_safe plan (ran.moments (length ran.items)) sound padded
+      (lawful (length ran.items) (omega arith)).ruled
 
   end_is : (t : ℕ) → t < plan.threads → end_at outcome t ≡ end_of (last.place t)
   end_is t within =
       ap (λ (xs : List End). get_or xs t ends.Absent) ran.comes_out.ends
-      ∙ get_or-map-range_with_len (λ u. end_of (last.place u)) 0 (plan.threads - 0) t t ends.Absent (omega arith) (omega arith)
+      ∙ get_or-map-range_with_len (λ u. end_of (last.place u)) 0 (plan.threads - 0) t t ends.Absent (omega arith)
+      (omega arith)
 
   revision_is : (g : ℕ) → g < plan.groups → slice_index outcome.revs g ≡ last.revision g
-  revision_is g below = ap (λ (xs : List ℕ). slice_index xs g) ran.comes_out.revs ∙ get_or-map-range_with_len last.revision 0 plan.groups g g 0 below (omega arith)
+  revision_is g below = ap (λ (xs : List ℕ). slice_index xs g) ran.comes_out.revs
+      ∙ get_or-map-range_with_len last.revision 0 plan.groups g g 0 below (omega arith)
 
-  offer_is : (t : ℕ) → t < plan.threads → plan.offer (plan.group t) ≡ Some (last.revision (plan.group t)) → plan.offer (plan.group t) ≡ Some (slice_index outcome.revs (plan.group t))
+  offer_is : (t : ℕ) → t < plan.threads → plan.offer (plan.group t) ≡ Some (last.revision (plan.group t)) →
+      plan.offer (plan.group t) ≡ Some (slice_index outcome.revs (plan.group t))
   offer_is t within is = is ∙ ap Some (sym (revision_is (plan.group t) (sound.groups_in_range t within)))
 
   listed_leaves : RanLeaves plan outcome
   listed_leaves = record {
     a_revision_each = ap length ran.comes_out.revs ∙ length-map-range_with_len last.revision 0 plan.groups;
     dropped = λ two g below.
-        revision_is g below ∙ (safe.nothing_without_go (dropped_is_no_go last.stage (subst (λ (n : ℕ). 2 ≤ n) ran.comes_out.decide two)) g).1;
-    succeeded = λ t within success. elim (success_is (last.place t) (sym (ap has_succeeded (end_is t within)) ∙ success)) [
-      | inl updated ↦ offer_is t within (safe.left_updated t updated)
-      | inr okay ↦ offer_is t within (safe.left_okay t okay)
-    ];
+        revision_is g below ∙ (safe.nothing_without_go
+        (dropped_is_no_go last.stage (subst (λ (n : ℕ). 2 ≤ n) ran.comes_out.decide two)) g).1;
+    succeeded = λ t within success. elim (success_is (last.place t)
+        (sym (ap has_succeeded (end_is t within)) ∙ success)) [
+          | inl updated ↦ offer_is t within (safe.left_updated t updated)
+          | inr okay ↦ offer_is t within (safe.left_okay t okay)
+        ];
     within = λ t success.
         let below : t < length outcome.ends = past_no_end outcome.ends t success in
-        let count : length outcome.ends ≡ plan.threads - 0 = ap length ran.comes_out.ends ∙ length-map-range_with_len (λ u. end_of (last.place u)) 0 (plan.threads - 0) in
+        let count : length outcome.ends ≡ plan.threads - 0 = ap length ran.comes_out.ends
+        ∙ length-map-range_with_len (λ u. end_of (last.place u)) 0 (plan.threads - 0) in
         omega arith;
   }
 
-pub ran_leaves : EventLaw → OpeningIsLawful → (line : Item → List ℕ) (lists : Bool) (plan : Plan) (beats : List Beat) (text : List ℕ) (outcome : Outcome) (late : Bool) → Sound plan → Padded plan → Ran line lists plan beats text outcome late → RanLeaves plan outcome
-ran_leaves law opens line true plan beats text outcome late sound padded ran = listed_leaves line plan beats text outcome law opens sound padded ran
-ran_leaves law opens line false plan beats text outcome late sound padded ran = unlisted_leaves plan text outcome late sound ran
+pub ran_leaves : EventLaw → OpeningIsLawful →
+    (line : Item → List ℕ) (lists : Bool) (plan : Plan) (beats : List Beat) (text : List ℕ) (outcome : Outcome)
+    (late : Bool) → Sound plan → Padded plan → Ran line lists plan beats text outcome late → RanLeaves plan outcome
+ran_leaves law opens line true plan beats text outcome late sound padded ran =
+    listed_leaves line plan beats text outcome law opens sound padded ran
+ran_leaves law opens line false plan beats text outcome late sound padded ran =
+    unlisted_leaves plan text outcome late sound ran

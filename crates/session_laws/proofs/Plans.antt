@@ -26,10 +26,12 @@ use Rattle.session_laws.proofs.Putting.{PutsStand, all_put_stand}
 
 -- ---- tables
 
-table_in : {A : Type 0} (places : ℕ) (each : ℕ → A) (behind : A) (k : ℕ) → k < places → table places each behind k ≡ each k
+table_in : {A : Type 0} (places : ℕ) (each : ℕ → A) (behind : A) (k : ℕ) → k < places →
+    table places each behind k ≡ each k
 table_in places each behind k below = ap (λ (b : Bool). if b then each k else behind) (lt-ltb k places below)
 
-table_past : {A : Type 0} (places : ℕ) (each : ℕ → A) (behind : A) (k : ℕ) → places ≤ k → table places each behind k ≡ behind
+table_past : {A : Type 0} (places : ℕ) (each : ℕ → A) (behind : A) (k : ℕ) → places ≤ k →
+    table places each behind k ≡ behind
 table_past places each behind k past = ap (λ (b : Bool). if b then each k else behind) (le-ltb k places past)
 
 -- ---- threads
@@ -46,11 +48,14 @@ up_is Offline is = absurd (false≢true is)
 
 -- ---- the revision of a put
 
-some_put : (puts : Puts) (offer : Option ℕ) (new : ℕ) → put_revision puts offer ≡ Some new → (entry : ℕ) × (offer ≡ Some entry)
+some_put : (puts : Puts) (offer : Option ℕ) (new : ℕ) → put_revision puts offer ≡ Some new →
+    (entry : ℕ) × (offer ≡ Some entry)
 some_put puts None new is = absurd cc
 some_put puts (Some entry) new is = (entry, refl)
 
-put_revision_at : (puts : Puts) (bytes : List ℕ) (place : Option ℕ) (new : ℕ) → ((block : ℕ) → place ≡ Some block → puts.patches block ≡ Some bytes) → option_map revision (patch_at puts.patches place) ≡ Some new → revision bytes ≡ new
+put_revision_at : (puts : Puts) (bytes : List ℕ) (place : Option ℕ) (new : ℕ) →
+    ((block : ℕ) → place ≡ Some block → puts.patches block ≡ Some bytes) →
+    option_map revision (patch_at puts.patches place) ≡ Some new → revision bytes ≡ new
 put_revision_at puts bytes None new there is = absurd cc
 put_revision_at puts bytes (Some block) new there is =
     let whole : Some (revision bytes) ≡ Some new = sym (ap (option_map revision) (there block refl)) ∙ is in cc
@@ -98,62 +103,93 @@ module _ (setting : Setting) (state : State) (puts : Puts) (offers : List (Optio
   rev0_in g below = table_in groups state.hardware.rev 0 g below
 
   module _ (partition : IsPartition setting.machine.stated) (stands : Standing setting state) where
-    own_primary : (t : ℕ) → t < threads → plan.primary (plan.group t) ≡ primary setting.machine.stated (group_at setting.machine.stated t)
-    own_primary t below = ap plan.primary (group_in t below) ∙ primary_in (group_at setting.machine.stated t) (group_below setting.machine.stated partition t below)
+    own_primary : (t : ℕ) → t < threads → plan.primary (plan.group t) ≡ primary setting.machine.stated
+        (group_at setting.machine.stated t)
+    own_primary t below = ap plan.primary (group_in t below)
+        ∙ primary_in (group_at setting.machine.stated t) (group_below setting.machine.stated partition t below)
 
     -- the primary of a group that takes part is up, where no needed thread is missing
-    primary_is_up : (g : ℕ) → g < groups → AllPresent setting state → takes_part setting state g ≡ true → state.hardware.thread (primary setting.machine.stated g) ≡ Up
+    primary_is_up : (g : ℕ) → g < groups → AllPresent setting state → takes_part setting state g ≡ true →
+        state.hardware.thread (primary setting.machine.stated g) ≡ Up
     unfolding first_missing
     primary_is_up g below present part =
         let p : ℕ = primary setting.machine.stated g in
         let there : p < threads = partition.has_primary g below in
         let own : group_at setting.machine.stated p ≡ g = primary_in_group setting.machine.stated partition g below in
-        let missing : is_missing setting state p ≡ false = none_found (is_missing setting state) 0 threads p present (omega arith) (omega (arith, there)) in
-        let first : ((p == primary setting.machine.stated ((machine_of setting).group p)) && takes_part setting state ((machine_of setting).group p)) ≡ true =
-        and_from _ _ (eq-eqb p (primary setting.machine.stated ((machine_of setting).group p)) (sym (ap (primary setting.machine.stated) own))) (ap (takes_part setting state) own ∙ part) in
-        let needed : is_needed setting state p ≡ true = or_left _ ((p == lead setting.machine.stated (core_of setting p)) && core_takes_part setting state (core_of setting p)) first in
-        let up : not (is_up (state.hardware.thread p)) ≡ false = sym (ap (λ (b : Bool). b && not (is_up (state.hardware.thread p))) needed) ∙ missing in
+        let missing : is_missing setting state p ≡ false =
+        none_found (is_missing setting state) 0 threads p present (omega arith) (omega (arith, there)) in
+        let first : ((p == primary setting.machine.stated ((machine_of setting).group p)) && takes_part setting state
+        ((machine_of setting).group p)) ≡ true =
+        and_from _ _ (eq-eqb p (primary setting.machine.stated ((machine_of setting).group p))
+        (sym (ap (primary setting.machine.stated) own))) (ap (takes_part setting state) own ∙ part) in
+        let needed : is_needed setting state p ≡ true =
+        or_left _ ((p == lead setting.machine.stated (core_of setting p)) && core_takes_part setting state
+        (core_of setting p)) first in
+        let up : not (is_up (state.hardware.thread p)) ≡ false =
+        sym (ap (λ (b : Bool). b && not (is_up (state.hardware.thread p))) needed) ∙ missing in
         up_is (state.hardware.thread p) (not-false (is_up (state.hardware.thread p)) up)
 
-    primary_is_online : (g : ℕ) → g < groups → AllPresent setting state → takes_part setting state g ≡ true → plan.kind (primary setting.machine.stated g) ≡ kind.Online
+    primary_is_online : (g : ℕ) → g < groups → AllPresent setting state → takes_part setting state g ≡ true →
+        plan.kind (primary setting.machine.stated g) ≡ kind.Online
     primary_is_online g below present part =
-        kind_in (primary setting.machine.stated g) (partition.has_primary g below) ∙ ap kind_of (primary_is_up g below present part)
+        kind_in (primary setting.machine.stated g) (partition.has_primary g below)
+        ∙ ap kind_of (primary_is_up g below present part)
 
-    module _ (force : Bool) (names : List (List ℕ)) (reads : List Read) (entries : List Entry) (ready : IsReady setting state force names reads entries offers puts) where
+    module _ (force : Bool) (names : List (List ℕ)) (reads : List Read) (entries : List Entry)
+        (ready : IsReady setting state force names reads entries offers puts) where
       have : HaveRevisions entries
       have = entries_have names reads entries ready.read
 
-      now : PutsStand setting.blocks (bytes_at entries) (IsOffered groups entries offers) (λ entry offered. offered.has.long) state.patches puts
-      now = all_put_stand setting.blocks (bytes_at entries) (IsOffered groups entries offers) (λ entry offered. offered.has.long) state.patches offers puts stands.patches.whole (at_load setting state force entries offers have ready.are_offers) ready.put
+      now : PutsStand setting.blocks (bytes_at entries) (IsOffered groups entries offers)
+          (λ entry offered. offered.has.long) state.patches puts
+      now = all_put_stand setting.blocks (bytes_at entries) (IsOffered groups entries offers)
+          (λ entry offered. offered.has.long) state.patches offers puts stands.patches.whole
+          (at_load setting state force entries offers have ready.are_offers) ready.put
 
       -- what a group is offered in the plan is the revision of an entry, which is above the group's
-      offer_is_above : (g new : ℕ) → g < groups → plan.offer g ≡ Some new → (takes_part setting state g ≡ true) × (state.hardware.rev g < new)
+      offer_is_above : (g new : ℕ) → g < groups → plan.offer g ≡ Some new →
+          (takes_part setting state g ≡ true) × (state.hardware.rev g < new)
       offer_is_above g new below is =
           let put : put_revision puts (offer_of offers g) ≡ Some new = sym (offer_in g below) ∙ is in
           let some = some_put puts (offer_of offers g) new put in
           let its = load_offers setting state force entries offers ready.are_offers g some.0 some.1 in
           let has = offered_has entries _ force some.0 have its.is_offer in
-          let same : revision (bytes_at entries some.0) ≡ new = put_revision_at puts (bytes_at entries some.0) (puts.first some.0) new (λ block place. now.there some.0 block place) (sym (ap (put_revision puts) some.1) ∙ put) in
-          (its.part, subst (λ (n : ℕ). state.hardware.rev g < n) (sym has.stated ∙ same) (offered_is_above entries _ force some.0 its.is_offer))
+          let same : revision (bytes_at entries some.0) ≡ new =
+          put_revision_at puts (bytes_at entries some.0) (puts.first some.0) new
+          (λ block place. now.there some.0 block place) (sym (ap (put_revision puts) some.1) ∙ put) in (
+            its.part,
+            subst (λ (n : ℕ). state.hardware.rev g < n) (sym has.stated ∙ same)
+                (offered_is_above entries _ force some.0 its.is_offer),
+          )
 
       is_sound : Sound plan
       unfolding plan_of
       is_sound = record {
         some_thread = partition.some_thread;
         few_threads = partition.groups.threads_fit;
-        groups_in_range = λ t below. subst (λ (g : ℕ). g < groups) (sym (group_in t below)) (group_below setting.machine.stated partition t below);
-        primaries_in_range = λ g below. subst (λ (t : ℕ). t < threads) (sym (primary_in g below)) (partition.has_primary g below);
+        groups_in_range = λ t below. subst (λ (g : ℕ). g < groups) (sym (group_in t below))
+            (group_below setting.machine.stated partition t below);
+        primaries_in_range = λ g below. subst (λ (t : ℕ). t < threads) (sym (primary_in g below))
+            (partition.has_primary g below);
         primary_is_one_of_its_group = λ g below.
-            ap plan.group (primary_in g below) ∙ group_in (primary setting.machine.stated g) (partition.has_primary g below) ∙ primary_in_group setting.machine.stated partition g below;
-        primary_is_the_lowest = λ t below. subst (λ (p : ℕ). p ≤ t) (sym (own_primary t below)) (primary_is_lowest setting.machine.stated partition t);
+            ap plan.group (primary_in g below) ∙ group_in (primary setting.machine.stated g)
+            (partition.has_primary g below) ∙ primary_in_group setting.machine.stated partition g below;
+        primary_is_the_lowest = λ t below. subst (λ (p : ℕ). p ≤ t) (sym (own_primary t below))
+            (primary_is_lowest setting.machine.stated partition t);
         thread_0_is_online =
-            kind_in 0 partition.some_thread ∙ ap kind_of (stands.threads.first_is_up (something_is_on setting state force entries offers stands ready.are_offers ready.something));
+            kind_in 0 partition.some_thread ∙ ap kind_of (stands.threads.first_is_up
+            (something_is_on setting state force entries offers stands ready.are_offers ready.something));
         present_primary = λ t below present.
-            let warm : is_cold (state.hardware.thread t) ≡ false = present_is_warm (state.hardware.thread t) (λ absent. present (kind_in t below ∙ absent)) in
+            let warm : is_cold (state.hardware.thread t) ≡ false =
+            present_is_warm (state.hardware.thread t) (λ absent. present (kind_in t below ∙ absent)) in
             ap plan.kind (own_primary t below)
-            ∙ primary_is_online (group_at setting.machine.stated t) (group_below setting.machine.stated partition t below) ready.present (warm_takes_part setting state t below warm);
-        offer_to_present = λ g new below is. ap plan.kind (primary_in g below) ∙ primary_is_online g below ready.present (offer_is_above g new below is).0;
-        offer_is_greater = λ g new below is. subst (λ (rev : ℕ). rev < new) (sym (rev0_in g below)) (offer_is_above g new below is).1;
+            ∙ primary_is_online (group_at setting.machine.stated t)
+            (group_below setting.machine.stated partition t below) ready.present
+            (warm_takes_part setting state t below warm);
+        offer_to_present = λ g new below is. ap plan.kind (primary_in g below)
+            ∙ primary_is_online g below ready.present (offer_is_above g new below is).0;
+        offer_is_greater = λ g new below is. subst (λ (rev : ℕ). rev < new) (sym (rev0_in g below))
+            (offer_is_above g new below is).1;
       }
 
   is_padded : Padded plan
@@ -165,5 +201,7 @@ module _ (setting : Setting) (state : State) (puts : Puts) (offers : List (Optio
   }
 
 pub plans_sound : PlansSound
-plans_sound setting state force names reads entries offers puts partition stands ready =
-    (is_sound setting state puts offers partition stands force names reads entries ready, is_padded setting state puts offers)
+plans_sound setting state force names reads entries offers puts partition stands ready = (
+  is_sound setting state puts offers partition stands force names reads entries ready,
+  is_padded setting state puts offers,
+)

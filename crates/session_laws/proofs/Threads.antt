@@ -41,14 +41,17 @@ record Keeps (old new : Hardware) : Type 0 where
   thread : new.thread ≡ old.thread
   remembered : new.remembered ≡ old.remembered
 
-brought_keeps : (hardware : Hardware) (t g : ℕ) (new : Option ℕ) (refuses : Bool) → Keeps hardware (brought hardware t g new refuses).after
+brought_keeps : (hardware : Hardware) (t g : ℕ) (new : Option ℕ) (refuses : Bool) →
+    Keeps hardware (brought hardware t g new refuses).after
 brought_keeps hardware t g None refuses = record { power = refl; thread = refl; remembered = refl }
 brought_keeps hardware t g (Some new) true = record { power = refl; thread = refl; remembered = refl }
 brought_keeps hardware t g (Some new) false = record { power = refl; thread = refl; remembered = refl }
 
-came_up : (setting : Setting) (patches : Patches) (hardware : Hardware) (t : ℕ) → Keeps (with_thread hardware t Up) (bring_up setting patches hardware t).after
+came_up : (setting : Setting) (patches : Patches) (hardware : Hardware) (t : ℕ) →
+    Keeps (with_thread hardware t Up) (bring_up setting patches hardware t).after
 came_up setting patches hardware t =
-    brought_keeps (with_thread hardware t Up) t (setting.group t) (to_write setting patches hardware (setting.group t)) (hardware.refuses (setting.group t))
+    brought_keeps (with_thread hardware t Up) t (setting.group t)
+    (to_write setting patches hardware (setting.group t)) (hardware.refuses (setting.group t))
 
 -- Threads came up one after the other, none of them past the table: power and the remembered threads stay, and so do the
 -- threads that are up, and those past the table.
@@ -64,24 +67,30 @@ up_with thread t u up = elim (cases_eq u t) [
   | inr other ↦ put_far thread t u Up other ∙ up
 ]
 
-pub brings : (setting : Setting) (patches : Patches) (hardware : Hardware) (threads : ℕ) (ts : List ℕ) → All (λ t. t < threads) ts → Brings hardware (bring_up_each setting patches hardware ts).after threads
-brings setting patches hardware threads [] below = record { power = refl; remembered = refl; up = λ u up. up; past = λ u past. refl }
+pub brings : (setting : Setting) (patches : Patches) (hardware : Hardware) (threads : ℕ) (ts : List ℕ) →
+    All (λ t. t < threads) ts → Brings hardware (bring_up_each setting patches hardware ts).after threads
+brings setting patches hardware threads [] below =
+    record { power = refl; remembered = refl; up = λ u up. up; past = λ u past. refl }
 brings setting patches hardware threads (t ∷ ts) below =
     let came = came_up setting patches hardware t in
-    let rest = brings setting patches (bring_up setting patches hardware t).after threads ts (All-tail (λ t. t < threads) t ts below) in
+    let rest = brings setting patches (bring_up setting patches hardware t).after threads ts
+    (All-tail (λ t. t < threads) t ts below) in
     let here : t < threads = All-head (λ t. t < threads) t ts below in
     record {
       power = rest.power ∙ came.power;
       remembered = rest.remembered ∙ came.remembered;
       up = λ u up. rest.up u (ap (λ (thread : ℕ → ThreadState). thread u) came.thread ∙ up_with hardware.thread t u up);
-      past = λ u past. rest.past u past ∙ ap (λ (thread : ℕ → ThreadState). thread u) came.thread ∙ put_far hardware.thread t u Up (λ same. absurd (omega (arith, same, here, past)));
+      past = λ u past. rest.past u past ∙ ap (λ (thread : ℕ → ThreadState). thread u) came.thread
+          ∙ put_far hardware.thread t u Up (λ same. absurd (omega (arith, same, here, past)));
     }
 
 -- the first of them is up then
-first_is_up : (setting : Setting) (patches : Patches) (hardware : Hardware) (threads t : ℕ) (ts all : List ℕ) → all ≡ t ∷ ts → All (λ t. t < threads) all → (bring_up_each setting patches hardware all).after.thread t ≡ Up
+first_is_up : (setting : Setting) (patches : Patches) (hardware : Hardware) (threads t : ℕ) (ts all : List ℕ) →
+    all ≡ t ∷ ts → All (λ t. t < threads) all → (bring_up_each setting patches hardware all).after.thread t ≡ Up
 first_is_up setting patches hardware threads t ts all is below =
     let came = came_up setting patches hardware t in
-    let rest = brings setting patches (bring_up setting patches hardware t).after threads ts (All-tail (λ t. t < threads) t ts (subst (All (λ t. t < threads)) is below)) in
+    let rest = brings setting patches (bring_up setting patches hardware t).after threads ts
+    (All-tail (λ t. t < threads) t ts (subst (All (λ t. t < threads)) is below)) in
     subst (λ (l : List ℕ). (bring_up_each setting patches hardware l).after.thread t ≡ Up) (sym is)
     (rest.up t (ap (λ (thread : ℕ → ThreadState). thread t) came.thread ∙ put_here hardware.thread t Up))
 
@@ -91,21 +100,25 @@ row_is_below : (low n : ℕ) → All (λ t. t < low + n) (range_with_len low n)
 row_is_below low zero = All-nil (λ t. t < low + 0)
 row_is_below low (suc n) =
     let same : low + 1 + n ≡ low + suc n = omega arith in
-    All-cons (λ t. t < low + suc n) low (range_with_len (low + 1) n) (omega arith) (subst (λ (k : ℕ). All (λ t. t < k) (range_with_len (low + 1) n)) same (row_is_below (low + 1) n))
+    All-cons (λ t. t < low + suc n) low (range_with_len (low + 1) n) (omega arith)
+    (subst (λ (k : ℕ). All (λ t. t < k) (range_with_len (low + 1) n)) same (row_is_below (low + 1) n))
 
 pub are_below : (n : ℕ) → All (λ t. t < n) (range_with_len 0 n)
-are_below n = let same : 0 + n ≡ n = omega arith in subst (λ (k : ℕ). All (λ t. t < k) (range_with_len 0 n)) same (row_is_below 0 n)
+are_below n = let same : 0 + n ≡ n = omega arith in
+    subst (λ (k : ℕ). All (λ t. t < k) (range_with_len 0 n)) same (row_is_below 0 n)
 
 row_begins : (n : ℕ) → 0 < n → (ts : List ℕ) × (range_with_len 0 n ≡ 0 ∷ ts)
 row_begins zero some = absurd (omega (arith, some))
 row_begins (suc n) some = (range_with_len 1 n, refl)
 
-kept_begins : (test : ℕ → Bool) (n : ℕ) → 0 < n → test 0 ≡ true → (ts : List ℕ) × (filter test (range_with_len 0 n) ≡ 0 ∷ ts)
+kept_begins : (test : ℕ → Bool) (n : ℕ) → 0 < n → test 0 ≡ true →
+    (ts : List ℕ) × (filter test (range_with_len 0 n) ≡ 0 ∷ ts)
 kept_begins test zero some passes = absurd (omega (arith, some))
 kept_begins test (suc n) some passes = (filter test (range_with_len 1 n), rw passes refl)
 
 -- where the power was switched on and threads come up, 0 the first of them
-woken_stand : (setting : Setting) (patches : Patches) (old : Hardware) (ts all : List ℕ) → Stand setting old → is_on old.power ≡ false → all ≡ 0 ∷ ts → All (λ t. t < setting.threads) all
+woken_stand : (setting : Setting) (patches : Patches) (old : Hardware) (ts all : List ℕ) → Stand setting old →
+    is_on old.power ≡ false → all ≡ 0 ∷ ts → All (λ t. t < setting.threads) all
     → Stand setting (bring_up_each setting patches (with_power old power.On) all).after
 woken_stand setting patches old ts all stands off begins below =
     let on : Hardware = with_power old power.On in
@@ -117,28 +130,35 @@ woken_stand setting patches old ts all stands off begins below =
       past = λ t past. all_come.past t past ∙ stands.past t past;
     }
 
-pub all_stand : (setting : Setting) (patches : Patches) (old : Hardware) → 0 < setting.threads → Stand setting old → is_on old.power ≡ false → Stand setting (bring_up_all setting patches (with_power old power.On)).after
+pub all_stand : (setting : Setting) (patches : Patches) (old : Hardware) → 0 < setting.threads → Stand setting old →
+    is_on old.power ≡ false → Stand setting (bring_up_all setting patches (with_power old power.On)).after
 all_stand setting patches old some stands off =
     let begins = row_begins setting.threads some in
     woken_stand setting patches old begins.0 (threads_of setting) stands off begins.1 (are_below setting.threads)
 
-pub remembered_stand : (setting : Setting) (patches : Patches) (old : Hardware) → 0 < setting.threads → Stand setting old → is_asleep old.power ≡ true
+pub remembered_stand : (setting : Setting) (patches : Patches) (old : Hardware) → 0 < setting.threads →
+    Stand setting old → is_asleep old.power ≡ true
     → Stand setting (bring_up_each setting patches (with_power old power.On) (remembered_threads setting old)).after
 remembered_stand setting patches old some stands asleep =
     let begins = kept_begins old.remembered setting.threads some (stands.is_remembered asleep) in
-    woken_stand setting patches old begins.0 (remembered_threads setting old) stands (asleep_is_not_on old.power asleep) begins.1
+    woken_stand setting patches old begins.0 (remembered_threads setting old) stands
+    (asleep_is_not_on old.power asleep) begins.1
     (All-filter old.remembered (λ t. t < setting.threads) (threads_of setting) (are_below setting.threads))
 
 -- power stays on after a bring-up, and so nothing is to be shown of a machine that is off
-pub power_stays : (setting : Setting) (patches : Patches) (old : Hardware) (ts : List ℕ) → (bring_up_each setting patches old ts).after.power ≡ old.power
+pub power_stays : (setting : Setting) (patches : Patches) (old : Hardware) (ts : List ℕ) →
+    (bring_up_each setting patches old ts).after.power ≡ old.power
 power_stays setting patches old [] = refl
-power_stays setting patches old (t ∷ ts) = power_stays setting patches (bring_up setting patches old t).after ts ∙ (came_up setting patches old t).power
+power_stays setting patches old (t ∷ ts) = power_stays setting patches (bring_up setting patches old t).after ts
+    ∙ (came_up setting patches old t).power
 
 -- ---- the other calls
 
-pub one_more_stands : (setting : Setting) (patches : Patches) (old : Hardware) (t : ℕ) → t < setting.threads → is_on old.power ≡ true → Stand setting old → Stand setting (bring_up_each setting patches old (t ∷ [])).after
+pub one_more_stands : (setting : Setting) (patches : Patches) (old : Hardware) (t : ℕ) → t < setting.threads →
+    is_on old.power ≡ true → Stand setting old → Stand setting (bring_up_each setting patches old (t ∷ [])).after
 one_more_stands setting patches old t below on stands =
-    let came = brings setting patches old setting.threads (t ∷ []) (All-cons (λ t. t < setting.threads) t [] below (All-nil (λ t. t < setting.threads))) in
+    let came = brings setting patches old setting.threads (t ∷ [])
+    (All-cons (λ t. t < setting.threads) t [] below (All-nil (λ t. t < setting.threads))) in
     let now_on : is_on (bring_up_each setting patches old (t ∷ [])).after.power ≡ true = ap is_on came.power ∙ on in
     record {
       first_is_up = λ is. came.up 0 (stands.first_is_up on);
@@ -150,15 +170,18 @@ one_more_stands setting patches old t below on stands =
 cold_is_not_up : (state : ThreadState) → state ≡ Cold → is_up state ≡ true → ⊥
 cold_is_not_up state cold up = false≢true (sym (ap is_up cold) ∙ up)
 
-pub one_down_stands : (setting : Setting) (old : Hardware) (t : ℕ) → is_on old.power ≡ true → t ≢ 0 → is_up (old.thread t) ≡ true → Stand setting old → Stand setting (with_thread old t Offline)
+pub one_down_stands : (setting : Setting) (old : Hardware) (t : ℕ) → is_on old.power ≡ true → t ≢ 0 →
+    is_up (old.thread t) ≡ true → Stand setting old → Stand setting (with_thread old t Offline)
 one_down_stands setting old t on other up stands = record {
   first_is_up = λ is. put_far old.thread t 0 Offline (λ same. other (sym same)) ∙ stands.first_is_up on;
   all_are_cold = λ is_not. absurd (true≢false (sym on ∙ is_not));
   is_remembered = λ asleep. absurd (false≢true (sym (asleep_is_not_on old.power asleep) ∙ on));
-  past = λ u past. put_far old.thread t u Offline (λ same. cold_is_not_up (old.thread t) (ap old.thread (sym same) ∙ stands.past u past) up) ∙ stands.past u past;
+  past = λ u past. put_far old.thread t u Offline
+      (λ same. cold_is_not_up (old.thread t) (ap old.thread (sym same) ∙ stands.past u past) up) ∙ stands.past u past;
 }
 
-pub suspended_stands : (setting : Setting) (old : Hardware) → is_on old.power ≡ true → Stand setting old → Stand setting (suspended setting old)
+pub suspended_stands : (setting : Setting) (old : Hardware) → is_on old.power ≡ true → Stand setting old →
+    Stand setting (suspended setting old)
 suspended_stands setting old on stands = record {
   first_is_up = λ is. absurd (false≢true is);
   all_are_cold = λ is_not t. refl;
