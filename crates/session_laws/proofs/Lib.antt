@@ -5,5 +5,6 @@ mod Entries
 mod Putting
 mod Parts
 pub mod Stands
+pub mod Sessions
 mod Groups
 pub mod Plans

@@ -1,5 +1,5 @@
 -- What stands in every state of a session: of threads, of the region's patches, and of a machine that is off.
-use Rattle.std.specs.Prelude.{◌≡◌, ◌≢◌, ℕ, ◌<◌, ◌≤◌, Bool, true, false, List, length, Option, Some, None}
+use Rattle.std.specs.Prelude.{◌≡◌, ◌≢◌, ℕ, ◌<◌, ◌≤◌, Bool, true, false, List, length, All, Option, Some, None}
 use Rattle.uc_topology.specs.Stated.{IsPartition}
 use Rattle.region_steps.specs.Region.{Patches}
 use Rattle.machine_steps.specs.declared.states.Power.{Power}
@@ -12,6 +12,7 @@ use Rattle.script_text.specs.declared.command.Command.TheVariants as command
 use Rattle.session_steps.specs.State.{Setting, State, machine_of, opening_state}
 use Rattle.session_steps.specs.Did.{Did}
 use Rattle.session_steps.specs.Step.{SessionStep}
+use Rattle.session_steps.specs.Session.{Steps}
 
 -- Where power is on, thread 0 is up; else all threads are cold, and where the machine sleeps, thread 0 comes up at its
 -- resume. There is no thread past the table.
@@ -53,3 +54,11 @@ StepsStand =
     (lists : Bool) (setting : Setting) (state : State) (one : Command) (did : Did) →
     IsPartition setting.machine.stated →
     Standing setting state → InRange setting one → SessionStep lists setting state one did → Standing setting did.after
+
+-- what each command of a session leaves, from the opening state on, stands
+abbrev pub SessionsStand : Type 0
+SessionsStand =
+    (lists : Bool) (setting : Setting) (commands : List Command) (dids : List Did) →
+    IsPartition setting.machine.stated →
+    All (λ one. InRange setting one) commands →
+    Steps lists setting commands dids → All (λ did. Standing setting did.after) dids

@@ -3,7 +3,7 @@
 
 ghost use Rattle.session_laws.specs.Laws.{RefusalsKeep, NeverFalls};
 ghost use Rattle.session_laws.specs.Plans.{PlansSound};
-ghost use Rattle.session_laws.specs.Standing.{OpeningStands, StepsStand};
+ghost use Rattle.session_laws.specs.Standing.{OpeningStands, StepsStand, SessionsStand};
 
 use machine_steps::only_suspend_lets_a_revision_fall;
 
@@ -24,6 +24,7 @@ pub fn only_a_suspend_lets_a_revision_fall()
 pub fn each_state_stands()
     ensures opening { OpeningStands }
     ensures steps { StepsStand }
+    ensures sessions { SessionsStand }
 {}
 
 /// In a state that stands, a load that finds all threads that it needs, offers something and puts each offer into the
