@@ -79,8 +79,8 @@ fn cause_name(cause: FileCause) -> &'static str
     }
 }
 
-/// A cause, with the number of the entry where it has one.
-fn cause_text(cause: FileCause) -> ArrayVec<u8, 35>
+/// The text of a cause, with the number of the entry where it has one.
+pub fn cause_text(cause: FileCause) -> ArrayVec<u8, 35>
     ensures { result.items ≡ cause_text cause }
 {
     let mut text = ArrayVec::new();
