@@ -1,0 +1,8 @@
+//! A session on a simulated machine: one command after another, each answered, written and done as `session_steps` says.
+//!
+//! The session is written over any rendezvous, any files and any sink. `verdict` is what a load makes of an outcome.
+#![tactic(auto)]
+
+mod verdicts;
+
+pub use verdicts::verdict;
