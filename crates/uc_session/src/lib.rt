@@ -3,6 +3,8 @@
 //! The session is written over any rendezvous, any files and any sink. `verdict` is what a load makes of an outcome.
 #![tactic(auto)]
 
+mod sessions;
 mod verdicts;
 
+pub use sessions::Session;
 pub use verdicts::verdict;
