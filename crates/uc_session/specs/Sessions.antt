@@ -1,5 +1,4 @@
 -- What a session stands for.
-use Rattle.std.specs.Prelude.{ℕ}
 use Rattle.hw_machine.specs.Machine.{hardware_of}
 use Rattle.patch_pool.specs.Pool.{patches_of, blocks_in}
 use Rattle.early_load.specs.Caches.{cached_of}

@@ -3,6 +3,7 @@
 //! The session is written over any rendezvous, any files and any sink. `verdict` is what a load makes of an outcome.
 #![tactic(auto)]
 
+mod commands;
 mod sessions;
 mod verdicts;
 

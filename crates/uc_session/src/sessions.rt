@@ -21,10 +21,10 @@ use uc_topology::Topology;
 /// region always holds just the cached patches. It is large, so keep it in one place.
 #[derive(Debug, Drop)]
 pub struct Session {
-    topology: Topology,
-    machine: Machine,
-    pool: PatchPool,
-    cache: PatchCache,
+    pub(crate) topology: Topology,
+    pub(crate) machine: Machine,
+    pub(crate) pool: PatchPool,
+    pub(crate) cache: PatchCache,
     patience: u32,
     ghost states: { machine_setting machine ≡ stated_setting topology.stated },
     ghost groups: { groups_of cache ≡ (machine_setting machine).groups },
