@@ -147,7 +147,13 @@ fn main(rt: HostRuntime) -> ExitCode {
     let Some(outcome) = play(rt.alloc(), is_storm, number, &mut out) else {
         return ExitCode::from(1);
     };
-    let printed = println!(rt; "{} {} {} {}", out.lines, out.bytes, outcome.decide, revisions(&outcome));
+    let printed = println!(rt;
+        "{} {} {} {}",
+        out.lines,
+        out.bytes,
+        outcome.decide,
+        revisions(&outcome)
+    );
     ExitCode::from(if printed.is_ok() { 0 } else { 1 })
 }
 """

@@ -1,5 +1,5 @@
-/* Plays the two loads of core.py, as `rounds storm N` or `rounds wide N`, and prints how many lines and bytes came out, what
-   was decided, and the sum of the revisions; with a third word the lines themselves. */
+/* Plays the two loads of core.py, as `rounds storm N` or `rounds wide N`, and prints how many lines and bytes came out,
+   what was decided, and the sum of the revisions; with a third word the lines themselves. */
 #include <stdbool.h>
 #include <stdint.h>
 #include <stdio.h>
