@@ -26,6 +26,17 @@ fn update(alloc: Global, rev: u32, checksum: u32) -> Result<Vec<u8>, AllocError>
     Ok(bytes)
 }
 
+/// How many blocks in a row an entry wants that does not fit; none where it fits, or there is no such entry.
+fn blocks_wanted(catalog: &Catalog, entry: u32, pool: &mut PatchPool) -> Option<u32> {
+    if entry >= catalog.len() {
+        return None;
+    }
+    match put_offers(catalog, &[Some(entry)], pool) {
+        Ok(_) => None,
+        Err(full) => Some(full.needed),
+    }
+}
+
 #[test]
 fn the_first_thread_of_a_group_writes_again_after_a_resume(rt: HostRuntime) -> Result<(), Fail> {
     let Ok(topology) = read_topology(T2) else {
@@ -70,11 +81,7 @@ fn the_first_thread_of_a_group_writes_again_after_a_resume(rt: HostRuntime) -> R
     assert!(rt; ups.len() == 2);
     assert_eq!(rt; (ups[0], ups[1]), (wrote, came));
     // The other update needs two blocks, and one is free.
-    let full = match put_offers(&catalog, &[Some(1)], &mut pool) {
-        Ok(_) => None,
-        Err(full) => Some(full.needed),
-    };
-    assert_eq!(rt; full, Some(2));
+    assert_eq!(rt; blocks_wanted(&catalog, 1, &mut pool), Some(2));
     assert!(rt; pool.held() == 1 && pool.holds(PatchId(0)));
     Ok(())
 }
