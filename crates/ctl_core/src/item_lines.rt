@@ -6,20 +6,20 @@ ghost use Rattle.rendezvous_steps.specs.declared.items.What.TheVariants.{Wrote, 
 ghost use Rattle.item_text.specs.Items.{result_text, what_text, item_line};
 
 use arrayvec::ArrayVec;
+use itoa::Buffer;
 use rendezvous_steps::{Item, ThreadResult, What};
-use uc_text::{dec, hex8};
+use uc_text::hex8;
 
-/// `T WORDS` and a line feed: the thread, and what it did.
+/// `T WORDS` and a line feed in place of what the line held: the thread, and what it did.
 #[tactic(auto, unfolding(item_text::specs::Items::item_line))]
-pub fn item_line(item: &Item) -> ArrayVec<u8, 64>
-    ensures { result.items ≡ item_line item.now }
+pub fn compose(line: &mut ArrayVec<u8, 64>, item: &Item)
+    ensures { line.new.items ≡ item_line item.now }
 {
-    let mut line = ArrayVec::new();
-    add(&mut line, dec(u64::from(item.thread)).as_slice());
-    add(&mut line, b" ");
-    add_what(&mut line, item.what);
-    add(&mut line, b"\n");
-    line
+    line.clear();
+    add(line, Buffer::new().format(item.thread).as_bytes());
+    add(line, b" ");
+    add_what(line, item.what);
+    add(line, b"\n");
 }
 
 fn add(line: &mut ArrayVec<u8, 64>, piece: &[u8])
@@ -38,7 +38,7 @@ fn add_numbered(line: &mut ArrayVec<u8, 64>, word: &[u8], number: u16)
     ensures len { array_vec_len line.new ≤ array_vec_len line.old + 30 }
 {
     add(line, word);
-    add(line, dec(u64::from(number)).as_slice());
+    add(line, Buffer::new().format(number).as_bytes());
 }
 
 /// `wrote G HEX`.

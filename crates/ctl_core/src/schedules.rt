@@ -14,9 +14,10 @@ ghost use Rattle.item_text.specs.Items.{item_line as line_of};
 ghost use Rattle.play_laws.proofs.Exist.{always_runs as runs_always, ran_grows};
 
 use crate::cores::Core;
-use crate::item_lines::item_line;
+use crate::item_lines::compose;
 use crate::outcomes::Outcome;
 use crate::runs::{Rendezvous, RunAnswer};
+use arrayvec::ArrayVec;
 use ctl_words::Plan;
 use rendezvous_steps::{Beat, Event};
 use std::alloc::Global;
@@ -136,7 +137,9 @@ fn play_event<S: Sink>(core: &mut Core<'_>, event: Event, out: &mut S) -> Result
 {
     if !core.is_over() {
         let item = core.event(event);
-        out.write(item_line(&item).as_slice())?;
+        let mut line = ArrayVec::new();
+        compose(&mut line, &item);
+        out.write(line.as_slice())?;
     }
     Ok(())
 }
