@@ -4,3 +4,4 @@ pub mod Did
 pub mod Step
 pub mod Session
 pub mod Played
+pub mod Whole
