@@ -1,5 +1,5 @@
-/* A plain rendezvous, for the simulators beside it: a row of C for each phase, and the words of all threads in plain tables.
-   The program that includes it says where a line is composed, by `line_begin`, and takes it, by `line_end`. */
+/* A plain rendezvous, for the simulators beside it: a row of C for each phase, and the words of all threads in plain
+   tables. The program that includes it says where a line is composed, by `line_begin`, and takes it, by `line_end`. */
 #include <stdbool.h>
 #include <stdint.h>
 #include <string.h>
