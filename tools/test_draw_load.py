@@ -7,6 +7,7 @@ import unittest
 import xml.etree.ElementTree as Tree
 
 TOOL = os.path.join(os.path.dirname(os.path.abspath(__file__)), "draw_load.py")
+TOP = os.path.dirname(os.path.dirname(TOOL))
 SVG = "{http://www.w3.org/2000/svg}"
 TONE_OF = {"#e9e7e1": "outside", "#94b6d9": "held", "#c8402f": "writing", "#cbe2c2": "left"}
 
@@ -129,6 +130,11 @@ class Pictures(unittest.TestCase):
         self.assertEqual(drawn(PLAYED, "--load", "4"), (1, "", "the text has no load 4: it has 3\n"))
         self.assertEqual(drawn("error topology line 2 word\n"), (1, "", "the text has no load with steps\n"))
         self.assertEqual(drawn(PLAYED, "--load", "x")[0], 2)
+
+    def test_the_pictures_of_the_documents(self):
+        for name in ("first-load", "dropped-load"):
+            with open(os.path.join(TOP, "docs", name + ".svg"), encoding="utf-8") as file:
+                self.assertEqual(drawn("", os.path.join(TOP, "examples", name + ".txt")), (0, file.read(), ""))
 
     def test_many_threads(self):
         items = "".join(f"{t} enter\n" for t in range(64)) + "".join(f"cpu {t} unfinished\n" for t in range(64))
