@@ -333,6 +333,23 @@ static void add_beat(unsigned event, unsigned number) {
     script.beats[script.beat_count++] = (struct beat){event, number};
 }
 
+static int event_of(char letter) {
+    switch (letter) {
+    case 's':
+        return STEP;
+    case 't':
+        return TIMED_OUT;
+    case 'n':
+        return FOREIGN_NMI;
+    case 'r':
+        return RUN;
+    case '*':
+        return ROUNDS;
+    default:
+        return -1;
+    }
+}
+
 static const char *const line_faults[] = {"word", "number", "range", "too-many", NULL};
 
 /* Reads a line of beats: of all its words the fault that is checked first. */
@@ -340,12 +357,12 @@ static const char *read_beats(struct text line, uint64_t *events) {
     unsigned fault = 4;
     struct word word;
     while (fault > 0 && next_word(&line, &word)) {
-        const char *form = strchr("stnr*", word.at[0]);
-        if (!form || !word.at[0]) {
+        int event = event_of(word.at[0]);
+        unsigned found = 4;
+        uint64_t number;
+        if (event < 0) {
             return "word";
         }
-        unsigned event = form - "stnr*", found = 4;
-        uint64_t number;
         if (!read_number((struct word){word.at + 1, word.len - 1}, &number)) {
             found = 1;
         } else if (event == ROUNDS ? number < 1 || number > UINT16_MAX : number >= (uint64_t)machine_of.threads) {
