@@ -1,5 +1,5 @@
 -- Every command does something in every state that stands.
-use Rattle.std.proofs.Common.{◌≡◌, ◌⊎◌, ℕ, zero, suc, ◌<◌, Bool, true, false, List, [], ◌∷◌, length, map, Option, Some, None, Result, Ok, Err, refl, sym, ap, ◌∙◌, subst, inl, inr, arith, length-append}
+use Rattle.std.proofs.Common.{◌≡◌, ◌&&◌, ◌⊎◌, ℕ, zero, suc, ◌<◌, Bool, true, false, List, [], ◌∷◌, length, map, Option, Some, None, Result, Ok, Err, refl, sym, ap, ◌∙◌, subst, inl, inr, arith, length-append}
 use Rattle.std.specs.List.{All, range_with_len}
 use Rattle.std.proofs.lemmas.Bool.{cases_Bool}
 use Rattle.std.proofs.lemmas.List.Elements.{All-head, All-tail}
@@ -32,15 +32,17 @@ use Rattle.script_text.specs.declared.command.Command.TheVariants as command
 use Rattle.session_text.specs.declared.answers.CommandAnswer.{CommandAnswer}
 use Rattle.session_text.specs.declared.answers.CommandAnswer.TheVariants.{Hot, Load}
 use Rattle.session_text.specs.declared.answers.LoadAnswer.TheVariants as load
-use Rattle.session_steps.specs.State.{Setting, State, machine_of, cached_patches, takes_part, first_missing, opening_state}
+use Rattle.session_text.specs.declared.answers.SessionAnswer.{SessionAnswer}
+use Rattle.session_steps.specs.State.{Setting, State, machine_of, cached_patches, takes_part, first_missing}
 use Rattle.session_steps.specs.Offers.{bytes_at, offer_of, facts_now, IsOfferWhere, AreLoadOffers, NothingOffered, SomethingOffered, plan_of}
 use Rattle.session_steps.specs.Did.{Did, only, by_row, by_bring_ups}
 use Rattle.session_steps.specs.Step.{ReadAll, StopsRefused, BootRow, LoadRow, Meets, AllPresent, booted, brought_at_boot, met, run_of, answer_of, online, set_refusal}
-use Rattle.session_steps.specs.Session.{StepsFrom, ends_session, left_to_run, all_reads}
+use Rattle.session_steps.specs.Session.{StepsFrom, ends_session, left_to_run, all_reads, is_done, all_done, ended_by, or_else, first_end, answer_by}
 use Rattle.session_steps.specs.Played.{is_read_fault}
-use Rattle.session_laws.specs.Standing.{Standing, InRange, OpeningStands, StepsStand}
+use Rattle.session_steps.specs.Whole.{is_unread}
+use Rattle.session_laws.specs.Standing.{Standing, InRange, StepsStand}
 use Rattle.session_laws.specs.Plans.{PlansSound}
-use Rattle.command_laws.specs.Steps.{SomeStep, StepsExist, SessionsExist}
+use Rattle.command_laws.specs.Steps.{SomeStep, StepsExist, SomeSteps, SessionsExist}
 
 -- ---- offers for all groups
 
@@ -363,13 +365,25 @@ steps_exist verdicts plans lists setting state (command.Refuse core) holds runs 
 steps_exist verdicts plans lists setting state (command.Accept core) holds runs partition stands =
     record { did = set_refusal setting state core false; step = refl; held = held_nil holds; all_read = refl }
 
--- ---- a whole session
+-- ---- commands one after another
 
-record SomeFrom (lists : Bool) (setting : Setting) (state : State) (commands : List Command)
-    (holds : List ℕ → List ℕ) : Type 0 where
-  dids : List Did
-  steps : StepsFrom lists setting state commands dids
-  held : AreHeld holds (all_reads dids)
+-- whether a session says that a file was not read goes by what ended it
+pub unread_by : (end : Option SessionAnswer) (done all : Bool) →
+    is_unread (answer_by end done) ≡ is_unread (answer_by end all)
+unread_by (Some answer) done all = refl
+unread_by None false false = refl
+unread_by None false true = refl
+unread_by None true false = refl
+unread_by None true true = refl
+
+-- a command that read its files, and others behind it
+read_then : (answer : CommandAnswer) (end : Option SessionAnswer) (all : Bool) → is_read_fault answer ≡ false →
+    is_unread (answer_by end all) ≡ false →
+    is_unread (answer_by (or_else (ended_by answer) end) (is_done answer && all)) ≡ false
+read_then (Load (load.ReadFault file)) end all read rest = cc
+read_then (Load (load.BadFile file fault)) end all read rest = refl
+read_then (Load (load.Panicked t)) end all read rest = refl
+read_then answer end all read rest = unread_by end (is_done answer && all) all ∙ rest
 
 module _ (lists : Bool) (setting : Setting) (holds : List ℕ → List ℕ)
     (one_step : (state : State) (one : Command) → Standing setting state → SomeStep lists setting state one holds)
@@ -377,8 +391,8 @@ module _ (lists : Bool) (setting : Setting) (holds : List ℕ → List ℕ)
   -- where a command ended the session, or else the commands behind it were run
   and_then : (state : State) (one : Command) (commands : List Command) (some : SomeStep lists setting state one holds)
       (ends : Bool) → ends_session some.did.answer ≡ ends →
-      (ends ≡ false → SomeFrom lists setting some.did.after commands holds)
-      → SomeFrom lists setting state (one ∷ commands) holds
+      (ends ≡ false → SomeSteps lists setting some.did.after commands holds)
+      → SomeSteps lists setting state (one ∷ commands) holds
   and_then state one commands some true ends rest = record {
     dids = some.did ∷ [];
     steps = (
@@ -387,6 +401,7 @@ module _ (lists : Bool) (setting : Setting) (holds : List ℕ → List ℕ)
           (sym ends) tt,
     );
     held = held_append holds some.did.reads [] some.held (held_nil holds);
+    all_read = read_then some.did.answer None true some.all_read refl;
   }
   and_then state one commands some false goes_on rest =
       let behind = rest refl in
@@ -398,11 +413,18 @@ module _ (lists : Bool) (setting : Setting) (holds : List ℕ → List ℕ)
               (left_to_run b commands) behind.dids) (sym goes_on) behind.steps,
         );
         held = held_append holds some.did.reads (all_reads behind.dids) some.held behind.held;
+        all_read =
+            read_then some.did.answer (first_end behind.dids) (all_done behind.dids) some.all_read behind.all_read;
       }
 
   some_from : (state : State) (commands : List Command) → Standing setting state →
-      All (λ one. InRange setting one) commands → SomeFrom lists setting state commands holds
-  some_from state [] stands within = record { dids = []; steps = tt; held = held_nil holds }
+      All (λ one. InRange setting one) commands → SomeSteps lists setting state commands holds
+  some_from state [] stands within = record {
+    dids = [];
+    steps = tt;
+    held = held_nil holds;
+    all_read = refl;
+  }
   some_from state (one ∷ commands) stands within =
       let some : SomeStep lists setting state one holds = one_step state one stands in
       let next : Standing setting some.did.after =
@@ -412,9 +434,8 @@ module _ (lists : Bool) (setting : Setting) (holds : List ℕ → List ℕ)
       (λ goes_on. some_from some.did.after commands next
       (All-tail (λ one. InRange setting one) one commands within))
 
-pub sessions_exist : StepsExist → StepsStand → OpeningStands → SessionsExist
-sessions_exist exist stays opens lists setting commands holds runs partition within =
-    let some = some_from lists setting holds
-    (λ state one stands. exist lists setting state one holds runs partition stands) stays partition
-    (opening_state setting) commands (opens setting) within in
-    record { dids = some.dids; steps = some.steps; held = some.held }
+pub sessions_exist : StepsExist → StepsStand → SessionsExist
+sessions_exist exist stays lists setting state commands holds runs partition stands within =
+    some_from lists setting holds
+    (λ before one stood. exist lists setting before one holds runs partition stood) stays partition
+    state commands stands within

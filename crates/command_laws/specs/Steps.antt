@@ -8,8 +8,9 @@ use Rattle.script_text.specs.declared.command.Command.{Command}
 use Rattle.session_steps.specs.State.{Setting, State}
 use Rattle.session_steps.specs.Did.{Did}
 use Rattle.session_steps.specs.Step.{SessionStep}
-use Rattle.session_steps.specs.Session.{Steps, all_reads}
+use Rattle.session_steps.specs.Session.{StepsFrom, all_reads, session_answer}
 use Rattle.session_steps.specs.Played.{is_read_fault}
+use Rattle.session_steps.specs.Whole.{is_unread}
 use Rattle.session_laws.specs.Standing.{Standing, InRange}
 
 -- something that a command does, where the files hold this and each can be read
@@ -28,17 +29,20 @@ StepsExist =
     AlwaysRuns item_line lists →
     IsPartition setting.machine.stated → Standing setting state → SomeStep lists setting state one holds
 
--- what the commands of a session do, one after the other, where the files hold this and each can be read
-pub record SomeSession
-    (lists : Bool) (setting : Setting) (commands : List Command) (holds : List ℕ → List ℕ)
+-- what commands do, one after the other from a state on, where the files hold this and each can be read
+pub record SomeSteps
+    (lists : Bool) (setting : Setting) (state : State) (commands : List Command) (holds : List ℕ → List ℕ)
     : Type 0 where
   pub dids : List Did
-  pub steps : Steps lists setting commands dids
+  pub steps : StepsFrom lists setting state commands dids
   pub held : AreHeld holds (all_reads dids)
+  pub all_read : is_unread (session_answer dids) ≡ false
 
+-- so does each list of commands, from each state that stands on
 abbrev pub SessionsExist : Type 0
 SessionsExist =
-    (lists : Bool) (setting : Setting) (commands : List Command) (holds : List ℕ → List ℕ) →
+    (lists : Bool) (setting : Setting) (state : State) (commands : List Command) (holds : List ℕ → List ℕ) →
     AlwaysRuns item_line lists →
     IsPartition setting.machine.stated →
-    All (λ one. InRange setting one) commands → SomeSession lists setting commands holds
+    Standing setting state →
+    All (λ one. InRange setting one) commands → SomeSteps lists setting state commands holds

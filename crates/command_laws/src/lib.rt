@@ -10,7 +10,7 @@ use round_laws::the_verdict_is_the_first_that_holds;
 use session_laws::{each_plan_is_sound, each_state_stands};
 
 /// Whatever the files hold, each command does something in every state that stands, and so does each list of commands
-/// from the opening state on, where every sound plan has a run.
+/// from such a state on, where every sound plan has a run. No file is left unread.
 pub fn each_command_does_something()
     ensures step { StepsExist }
     ensures session { SessionsExist }

@@ -7,4 +7,4 @@ returns-clause-step c = steps_exist c.the_verdict_is_the_first_that_holds.ensure
 pub returns-clause-session : goal.returns-clause-session
 returns-clause-session c =
     sessions_exist (steps_exist c.the_verdict_is_the_first_that_holds.ensures.holds c.each_plan_is_sound.ensures)
-    c.each_state_stands.ensures.steps c.each_state_stands.ensures.opening
+    c.each_state_stands.ensures.steps
