@@ -8,7 +8,9 @@
 mod answers;
 mod headings;
 mod lines;
+mod loads;
 
 pub use answers::put_answer;
 pub use headings::put_heading;
 pub use lines::{put_core, put_cpu, put_load_offer, put_up, put_ups};
+pub use loads::{put_load_offers, put_results};
