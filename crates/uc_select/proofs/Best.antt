@@ -1,6 +1,8 @@
 -- The best of the entries up to a number.
 use Rattle.std.proofs.Common.{◌≡◌, ℕ, zero, suc, ◌+◌, ◌<◌, ◌≤◌, inl, inr, Bool, List, [], ◌∷◌, ◌++◌, length, get_or, Option, Some, None, refl, sym, ◌∙◌, subst, arith}
-use Rattle.std.specs.Prelude.{slice_get}
+use Rattle.std.specs.Prelude.{slice_get, map, All, IfSome}
+use Rattle.std.specs.List.{range_with_len}
+use Rattle.std.proofs.lemmas.List.FromFn.{length-map-range_with_len, get_or-map-range_with_len}
 use Rattle.std.proofs.lemmas.Bool.{cases_lt}
 use Rattle.std.proofs.lemmas.Option.{slice_get_within}
 use Rattle.file_entries.specs.declared.facts.CoreFacts.{CoreFacts}
@@ -111,3 +113,23 @@ offers_at entries [] force offers k d are inside = absurd (omega arith)
 offers_at entries (c ∷ cs) force [] k d are inside = absurd are
 offers_at entries (c ∷ cs) force (o ∷ os) zero d are inside = are.0
 offers_at entries (c ∷ cs) force (o ∷ os) (suc k) d are inside = offers_at entries cs force os k d are.1 (omega arith)
+
+-- an offer is an entry
+pub is_entry : (entries : List Entry) (core : Option CoreFacts) (force : Bool) (offer : Option ℕ) → IsOfferAt entries core force offer → IfSome offer (λ number. number < length entries)
+is_entry entries core force None is = tt
+is_entry entries None force (Some number) is = absurd cc
+is_entry entries (Some core) force (Some number) is = slice_get_within entries number is.entry is.there
+
+-- offers of cores that are numbered from 0 on
+module _ (entries : List Entry) (core : ℕ → Option CoreFacts) (count : ℕ) (force : Bool) (offers : List (Option ℕ)) (are : AreOffers entries (map core (range_with_len 0 count)) force offers) where
+  pub offers_count : length offers ≡ count
+  offers_count = offers_length entries (map core (range_with_len 0 count)) force offers are ∙ length-map-range_with_len core 0 count
+
+  pub offers_each : (k : ℕ) (d : Option ℕ) → k < count → IsOfferAt entries (core k) force (get_or offers k d)
+  offers_each k d below =
+      subst (λ (one : Option CoreFacts). IsOfferAt entries one force (get_or offers k d)) (get_or-map-range_with_len core 0 count k k None below (omega arith))
+      (offers_at entries (map core (range_with_len 0 count)) force offers k d are (omega (arith, below, length-map-range_with_len core 0 count)))
+
+  pub offers_within : All (λ offer. IfSome offer (λ number. number < length entries)) offers
+  offers_within k d inside =
+      is_entry entries (core k) force (get_or offers k d) (offers_each k d (omega (arith, inside, offers_count)))
