@@ -17,7 +17,7 @@ use Rattle.tool_text.specs.Commands.{SelectText}
 use Rattle.tool_text.specs.Tool.{AskedText, FromReads, CanBeDone}
 use Rattle.tool_text.proofs.SomeText.{select_text, whether_told}
 use Rattle.tool_text.proofs.Complete.{IsEnd, complete}
-use Rattle.uc_cli.specs.Reading.{AreFilesRead, IsTopologyRead}
+use Rattle.uc_cli.specs.Reading.{AreUpdatesRead, IsTopologyRead}
 use Rattle.uc_cli.specs.Refusal.{line_of, status_of}
 use Rattle.uc_cli.specs.declared.refusal.Refusal.{Refusal}
 use Rattle.uc_cli.specs.declared.refusal.Refusal.TheVariants.{Unread, BadFile, BadTopology, NoEntry, NoMemory}
@@ -61,7 +61,7 @@ module _ {D : Type 0} (stands : D → List ℕ → Type 0) (faults : D → ℕ) 
   pub files_refused : (texts : Option ℕ → List ℕ → Status → Type 0) (tells : Type 0) (names : List (List ℕ)) (holds : List ℕ → List ℕ) (before now : ℕ) (refusal : Refusal) (status : Status) → HasText texts
       → ((name : List ℕ) → ReadsOf tells holds names (NotRead name) → (k : ℕ) × texts (Some k) (unread_line name) statuses.ReadFault)
       → ((name : List ℕ) (offset : ℕ) (cause : FileCause) → ReadsOf tells holds names (Refused name offset cause) → texts None (fault_line name offset cause) statuses.BadInput)
-      → AreFilesRead tells names holds before now (Err refusal) → Ends stands faults old new (line_of refusal) (status_of refusal) status → Written texts (Rose before now) stands old new status
+      → AreUpdatesRead tells names holds before now (Err refusal) → Ends stands faults old new (line_of refusal) (status_of refusal) status → Written texts (Rose before now) stands old new status
   files_refused texts tells names holds before now (Unread name) status has unread bad read ends =
       let text = unread name.now read.1 in
       unread_written texts (Rose before now) text.0 (unread_line name.now) status read.0 text.1 ends
@@ -73,7 +73,7 @@ module _ {D : Type 0} (stands : D → List ℕ → Type 0) (faults : D → ℕ) 
       memory_written texts (Rose before now) status has ends
 
   -- the causes of such an end
-  pub files_cause : (tells : Type 0) (names : List (List ℕ)) (holds : List ℕ → List ℕ) (before now : ℕ) (refusal : Refusal) → AreFilesRead tells names holds before now (Err refusal)
+  pub files_cause : (tells : Type 0) (names : List (List ℕ)) (holds : List ℕ → List ℕ) (before now : ℕ) (refusal : Refusal) → AreUpdatesRead tells names holds before now (Err refusal)
       → ReadCause before now (status_of refusal) × WriteCause (faults old) (faults new) (status_of refusal)
   files_cause tells names holds before now (Unread name) read = (read.0, tt)
   files_cause tells names holds before now (BadFile name fault) read = (read.0, tt)

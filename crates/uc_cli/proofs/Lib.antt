@@ -1,4 +1,3 @@
 mod Endings
-mod Files
 mod Groups
 mod Names

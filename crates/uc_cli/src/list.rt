@@ -7,7 +7,7 @@ ghost use Rattle.tool_text.specs.Commands.{ListText};
 ghost use Rattle.tool_text.specs.Tool.{FromReads, UsageCause};
 ghost use Rattle.tool_text.specs.Words.{ListOf};
 
-use crate::reading::read_files;
+use crate::reading::read_updates;
 use crate::refusal::refuse;
 use std::alloc::Global;
 use top_call::{Status, after_write};
@@ -26,7 +26,7 @@ pub fn list<F: Files, S: Sink>(alloc: Global, names: &[Text], files: &mut F, out
     ensures still { F.tells files.old → F.tells files.new }
     ensures later { F.faults files.old ≤ F.faults files.new }
 {
-    match read_files(alloc, names, files) {
+    match read_updates(alloc, names, files) {
         Ok(catalog) => after_write(Status::Done, put_list(out, &catalog, names)),
         Err(refusal) => refuse(out, refusal),
     }

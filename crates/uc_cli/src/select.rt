@@ -8,7 +8,7 @@ ghost use Rattle.tool_text.specs.Tool.{FromReads, UsageCause};
 ghost use Rattle.tool_text.specs.Words.{SelectOf};
 ghost use Rattle.uc_cli.specs.Selecting.{cores_of, PutsOffers};
 
-use crate::reading::{read_files, read_machine};
+use crate::reading::{read_machine, read_updates};
 use crate::refusal::refuse;
 use arrayvec::ArrayVec;
 use std::alloc::Global;
@@ -73,7 +73,7 @@ pub fn select<F: Files, S: Sink>(
         Ok(machine) => machine,
         Err(refusal) => return refuse(out, refusal),
     };
-    match read_files(alloc, names, files) {
+    match read_updates(alloc, names, files) {
         Ok(catalog) => after_write(Status::Done, put_selection(out, &machine, &catalog)),
         Err(refusal) => refuse(out, refusal),
     }

@@ -7,7 +7,7 @@ ghost use Rattle.tool_text.specs.Commands.{ShowText};
 ghost use Rattle.tool_text.specs.Tool.{FromReads, UsageCause};
 ghost use Rattle.tool_text.specs.Words.{ShowOf};
 
-use crate::reading::read_files;
+use crate::reading::read_updates;
 use crate::refusal::{Refusal, refuse};
 use std::alloc::Global;
 use std::slice::from_ref;
@@ -32,7 +32,7 @@ pub fn show<F: Files, S: Sink>(
     ensures still { F.tells files.old → F.tells files.new }
     ensures later { F.faults files.old ≤ F.faults files.new }
 {
-    match read_files(alloc, from_ref(name), files) {
+    match read_updates(alloc, from_ref(name), files) {
         Ok(catalog) => {
             if number < u64::from(catalog.len()) {
                 after_write(Status::Done, put_show(out, &catalog, number as u32))

@@ -7,7 +7,7 @@ use Rattle.tool_text.specs.Commands.{ListText}
 use Rattle.tool_text.specs.Tool.{FromReads}
 use Rattle.tool_text.proofs.SomeText.{date_text_of, are_date_texts, list_text, whether_told}
 use Rattle.uc_cli.proofs.Endings.{ended_cause, done_written, files_refused}
-use Rattle.uc_cli.proofs.Files.{readings_of}
+use Rattle.update_reads.proofs.Files.{readings_of}
 use Rattle.uc_cli.proofs.list.list.Goals as goal
 
 pub returns-in-Ok-clause-written : goal.returns-in-Ok-clause-written

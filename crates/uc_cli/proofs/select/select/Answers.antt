@@ -8,7 +8,7 @@ use Rattle.report_text.specs.Offers.{offers_text}
 use Rattle.tool_text.specs.Commands.{SelectText, facts_at, entries_of_all}
 use Rattle.tool_text.specs.Tool.{FromReads}
 use Rattle.tool_text.proofs.SomeText.{select_text, whether_told}
-use Rattle.uc_cli.specs.Reading.{AreFilesRead}
+use Rattle.uc_cli.specs.Reading.{AreUpdatesRead}
 use Rattle.uc_cli.specs.Selecting.{PutsOffers}
 use Rattle.uc_cli.proofs.Endings.{done_written, files_refused, topology_refused}
 use Rattle.uc_cli.proofs.select.select.Goals as goal
@@ -23,14 +23,14 @@ pub returns-in-Err-clause-written : goal.returns-in-Err-clause-written
 returns-in-Err-clause-written g c =
     topology_refused g.S.Sink.stands g.S.Sink.faults _ _ _ c.args.topology.now c.args.names.now (g.F.Files.holds c.args.files.now) _ _ c.in-Err.refusal _ c.in-Err.ensures.answer c.refuse.ensures
 
-pub returns-in-Ok-read_files-clause-written : goal.returns-in-Ok-read_files-clause-written
-returns-in-Ok-read_files-clause-written g c =
+pub returns-in-Ok-read_updates-clause-written : goal.returns-in-Ok-read_updates-clause-written
+returns-in-Ok-read_updates-clause-written g c =
     let topology = c.args.topology.now in
     let names = c.args.names.now in
     let tells = g.F.Pieces.tells c.args.files.now in
     let holds = g.F.Files.holds c.args.files.now in
     let stated = c.in-Ok.ensures.answer.1 in
-    let of = c.in-Ok-read_files.ensures.answer.1 in
+    let of = c.in-Ok-read_updates.ensures.answer.1 in
     let puts = subst (λ (entries : List Entry). PutsOffers g.S.Sink.stands g.S.Sink.faults c.args.out.now c.put_selection.new.out c.in-Ok.machine entries c.put_selection.result) of.entries c.put_selection.ensures in
     done_written g.S.Sink.stands g.S.Sink.faults _ _ (FromReads tells holds (SelectText topology names)) _ (offers_text c.in-Ok.machine (facts_at (entries_of_all of.readings)) puts.offers) _
     (record {
@@ -51,8 +51,8 @@ returns-in-Ok-read_files-clause-written g c =
     })
     (Ends-written g.S.Sink.stands g.S.Sink.faults _ _ _ Done _ _ puts.wrote c.after_write.ensures)
 
-pub returns-in-Err-read_files-clause-written : goal.returns-in-Err-read_files-clause-written
-returns-in-Err-read_files-clause-written g c =
+pub returns-in-Err-read_updates-clause-written : goal.returns-in-Err-read_updates-clause-written
+returns-in-Err-read_updates-clause-written g c =
     let topology = c.args.topology.now in
     let names = c.args.names.now in
     let tells = g.F.Pieces.tells c.args.files.now in
@@ -61,9 +61,9 @@ returns-in-Err-read_files-clause-written g c =
     let before = g.F.Files.holds c.read_machine.new.files in
     let machine = c.in-Ok.machine in
     let stated = c.in-Ok.ensures.answer.1 in
-    let read = subst (λ (count : ℕ). AreFilesRead told names before count (g.F.Pieces.faults c.read_files.new.files) (Err c.in-Err-read_files.refusal)) c.in-Ok.ensures.answer.0 c.in-Err-read_files.ensures.answer in
+    let read = subst (λ (count : ℕ). AreUpdatesRead told names before count (g.F.Pieces.faults c.read_updates.new.files) (Err c.in-Err-read_updates.refusal)) c.in-Ok.ensures.answer.0 c.in-Err-read_updates.ensures.answer in
     let held = λ (reads : List Read). held_behind tells told before holds topology stated.0 reads c.in-Ok.ensures.still c.in-Ok.ensures.same stated.1 in
-    files_refused g.S.Sink.stands g.S.Sink.faults _ _ (FromReads tells holds (SelectText topology names)) told names before _ _ c.in-Err-read_files.refusal _ (whether_told holds (SelectText topology names) (select_text topology names holds))
+    files_refused g.S.Sink.stands g.S.Sink.faults _ _ (FromReads tells holds (SelectText topology names)) told names before _ _ c.in-Err-read_updates.refusal _ (whether_told holds (SelectText topology names) (select_text topology names holds))
     (λ name of. (
       suc (length of.reads),
       record {
@@ -101,4 +101,4 @@ returns-in-Err-read_files-clause-written g c =
           });
     })
     read
-    c.refuse-in-Err-read_files.ensures
+    c.refuse-in-Err-read_updates.ensures

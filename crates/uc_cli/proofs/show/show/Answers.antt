@@ -11,7 +11,8 @@ use Rattle.report_text.specs.Show.{show_text}
 use Rattle.tool_text.specs.Commands.{ShowText, entries_of_all}
 use Rattle.tool_text.specs.Tool.{FromReads}
 use Rattle.tool_text.proofs.SomeText.{date_text_of, are_date_texts, show_text_of, whether_told}
-use Rattle.uc_cli.specs.Reading.{IsOfFiles, AreFilesRead}
+use Rattle.update_reads.specs.Reading.{IsOfFiles}
+use Rattle.uc_cli.specs.Reading.{AreUpdatesRead}
 use Rattle.uc_cli.proofs.Endings.{ended_cause, done_written, bad_written, files_refused}
 use Rattle.uc_cli.proofs.show.show.Goals as goal
 
@@ -66,5 +67,5 @@ returns-clause-written g c =
     (whether_told holds (ShowText name c.args.number) (show_text_of name c.args.number holds))
     (λ which of. (length of.reads, record { reads = of.reads; held = of.held; is_text = record { outcome = NotRead which; come = of.come; count = refl; shown = refl } }))
     (λ which offset cause of. record { reads = of.reads; held = of.held; is_text = record { outcome = Refused which offset cause; come = of.come; count = refl; shown = refl } })
-    (subst (λ (names : List (List ℕ)). AreFilesRead tells names holds (g.F.Pieces.faults c.args.files.now) (g.F.Pieces.faults c.read_files.new.files) (Err c.in-Err.refusal)) c.from_ref.ensures.value c.in-Err.ensures.answer)
+    (subst (λ (names : List (List ℕ)). AreUpdatesRead tells names holds (g.F.Pieces.faults c.args.files.now) (g.F.Pieces.faults c.read_updates.new.files) (Err c.in-Err.refusal)) c.from_ref.ensures.value c.in-Err.ensures.answer)
     c.refuse-in-Err.ensures

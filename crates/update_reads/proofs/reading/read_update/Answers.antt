@@ -1,7 +1,7 @@
 use Rattle.std.proofs.Common.{◌<◌, inl, ℕ, List, length, refl, subst}
 use Rattle.file_reads.specs.declared.TheConstants.{FILE_LIMIT}
 use Rattle.file_reads.proofs.Accepted.{past_limit}
-use Rattle.uc_cli.proofs.reading.read_update.Goals as goal
+use Rattle.update_reads.proofs.reading.read_update.Goals as goal
 
 pub returns-in-Err-TooLong-clause-answer : goal.returns-in-Err-TooLong-clause-answer
 returns-in-Err-TooLong-clause-answer g c =
@@ -9,4 +9,4 @@ returns-in-Err-TooLong-clause-answer g c =
     let tells = g.F.Pieces.tells c.args.files.now in
     let holds = g.F.Files.holds c.args.files.now in
     let long = past_limit FILE_LIMIT (holds c.args.name.now) tells (λ tell. subst (λ (name : List ℕ). FILE_LIMIT < length (holds name)) c.as_str.ensures (read.2 tell)) in
-    (read.0, refl, (long.0, long.2, inl (long.1, refl, refl)), refl)
+    (read.0, (long.0, long.2, inl (long.1, refl, refl)), refl)

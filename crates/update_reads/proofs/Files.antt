@@ -1,22 +1,23 @@
 -- The catalogue of files that were read.
-use Rattle.std.proofs.Common.{◌≡◌, ℕ, Err, suc, ◌+◌, ◌≤◌, List, [], ◌∷◌, ◌++◌, length, take, drop, Some, refl, sym, ◌∙◌, ap, subst, arith, append_assoc}
+use Rattle.std.proofs.Common.{◌≡◌, ℕ, Err, suc, ◌+◌, ◌<◌, ◌≤◌, List, [], ◌∷◌, ◌++◌, length, take, drop, Some, refl, sym, ◌∙◌, ap, subst, arith, append_assoc, length-append}
 use Rattle.std.specs.Prelude.{slice_get}
 use Rattle.std.proofs.Math.Seq.{split_at}
-use Rattle.std.proofs.lemmas.List.{take_more, map-append, append-nil, length-map}
+use Rattle.std.proofs.lemmas.List.{take_more, map-append, append-nil, length-map, length-take-le}
 use Rattle.std.proofs.lemmas.Option.{get_or_from_slice_get, slice_get_within}
-use Rattle.uc_bytes.specs.declared.causes.FileCause.{FileCause}
+use Rattle.uc_bytes.specs.declared.causes.FileFault.{FileFault}
 use Rattle.file_entries.specs.Reading.{Reading}
 use Rattle.file_entries.specs.Entry.{Entry, entries_of, entries_from, AreReadings}
 use Rattle.file_reads.specs.declared.TheConstants.{FILE_LIMIT}
 use Rattle.file_reads.specs.Accepts.{Refuses, AreAccepted}
-use Rattle.file_reads.specs.Reads.{Read, files_of, NotRead, Refused, ComesTo, ReadsOf}
+use Rattle.file_reads.specs.Reads.{Read, files_of, ComesTo}
 use Rattle.file_reads.proofs.Accepted.{accepted_length, accepted_push}
 use Rattle.file_reads.proofs.Outcomes.{held_nil, held_one, held_append}
 use Rattle.uc_catalog.specs.Contents.{Contents, Adds}
 use Rattle.uc_io.specs.Faults.{Rose}
-use Rattle.uc_cli.specs.declared.refusal.Refusal.{Refusal}
-use Rattle.uc_cli.specs.declared.refusal.Refusal.TheVariants.{Unread, BadFile, BadTopology, NoEntry, NoMemory}
-use Rattle.uc_cli.specs.Reading.{IsUpdateRead, IsOfFiles, AreFilesRead}
+use Rattle.update_reads.specs.declared.answers.FilesAnswer.{FilesAnswer}
+use Rattle.update_reads.specs.declared.answers.UpdateAnswer.{UpdateAnswer}
+use Rattle.update_reads.specs.declared.answers.UpdateAnswer.TheVariants.{ReadFault, BadFile, NoMemory}
+use Rattle.update_reads.specs.Reading.{in_place, IsUpdateRead, IsOfFiles, UnreadAt, RefusedAt, AreFilesRead}
 
 -- accepted files have these readings, one each
 are_readings : (files : List (List ℕ)) (rs : List Reading) → AreAccepted files rs → AreReadings files rs
@@ -82,6 +83,10 @@ module _ (tells : Type 0) (names : List (List ℕ)) (holds : List ℕ → List �
             ∙ ap (λ (n : ℕ). entries_from 0 rs ++ entries_of n adds.reading) place ∙ sym (entries_push 0 rs adds.reading);
       }
 
+  reads_count : (contents : Contents) (i : ℕ) → i < length names → (of : IsOfFiles tells (take i names) holds contents) → length of.reads ≡ i
+  reads_count contents i inside of =
+      sym (length-map of.reads (λ (read : Read). read.name)) ∙ ap length of.in_order ∙ length-take-le i names (omega (arith, inside))
+
   comes_to : (contents : Contents) (i : ℕ) (name : List ℕ) (of : IsOfFiles tells (take i names) holds contents) → slice_get names i ≡ Some name → ComesTo names of.reads name
   comes_to contents i name of at = record {
     rest = drop (suc i) names;
@@ -91,32 +96,39 @@ module _ (tells : Type 0) (names : List (List ℕ)) (holds : List ℕ → List �
   }
 
   -- the name that is come to is not read
-  pub not_read : (contents : Contents) (i : ℕ) (name : List ℕ) → IsOfFiles tells (take i names) holds contents → slice_get names i ≡ Some name → ReadsOf tells holds names (NotRead name)
-  not_read contents i name of at = record { reads = of.reads; held = of.held; come = comes_to contents i name of at }
+  not_read : (contents : Contents) (i : ℕ) (name : List ℕ) → i < length names → IsOfFiles tells (take i names) holds contents → slice_get names i ≡ Some name → UnreadAt tells names holds i
+  not_read contents i name inside of at = record {
+    reads = of.reads;
+    held = of.held;
+    name = name;
+    come = comes_to contents i name of at;
+    place = reads_count contents i inside of;
+  }
 
   -- or is refused
-  pub refused : (contents : Contents) (i : ℕ) (name bytes : List ℕ) (offset : ℕ) (cause : FileCause) → IsOfFiles tells (take i names) holds contents → slice_get names i ≡ Some name → (tells → bytes ≡ holds name) → Refuses bytes offset cause
-      → ReadsOf tells holds names (Refused name offset cause)
-  refused contents i name bytes offset cause of at told refuses =
+  refused : (contents : Contents) (i : ℕ) (name bytes : List ℕ) (fault : FileFault) → i < length names → IsOfFiles tells (take i names) holds contents → slice_get names i ≡ Some name → (tells → bytes ≡ holds name)
+      → Refuses bytes fault.offset fault.cause → RefusedAt tells names holds i fault
+  refused contents i name bytes fault inside of at told refuses =
       let read : Read = record { name = name; bytes = bytes } in
       record {
         reads = of.reads ++ read ∷ [];
         held = λ tell. held_append holds of.reads (read ∷ []) (of.held tell) (held_one holds read (told tell));
+        name = name;
         come = record { before = of.reads; bytes = bytes; last = refl; comes = comes_to contents i name of at; refuses = refuses };
+        place = omega (arith, length-append of.reads (read ∷ []), reads_count contents i inside of);
       }
 
-  -- it ends the reading of the files
-  pub stopped : (contents : Contents) (i : ℕ) (name : List ℕ) → IsOfFiles tells (take i names) holds contents → slice_get names i ≡ Some name → (told : Type 0) (held : List ℕ) (first before now : ℕ) (old new : Contents) (refusal : Refusal) → (tells → told)
-      → held ≡ holds name → before ≡ first → IsUpdateRead told name held before now old new (Err refusal) → AreFilesRead tells names holds first now (Err refusal)
-  stopped contents i name of at told held first before now old new (Unread which) still same count read = (
-    subst (λ (b : ℕ). Rose b now) count read.0,
-    subst (λ (n : List ℕ). ReadsOf tells holds names (NotRead n)) (sym read.1) (not_read contents i name of at),
-  )
-  stopped contents i name of at told held first before now old new (BadFile which fault) still same count read = (
-    read.0 ∙ count,
-    subst (λ (n : List ℕ). ReadsOf tells holds names (Refused n fault.offset fault.cause)) (sym read.1)
-        (refused contents i name read.2.0 fault.offset fault.cause of at (λ tell. read.2.1 (still tell) ∙ same) read.2.2),
-  )
-  stopped contents i name of at told held first before now old new (BadTopology fault) still same count read = absurd read
-  stopped contents i name of at told held first before now old new (NoEntry number) still same count read = absurd read
-  stopped contents i name of at told held first before now old new NoMemory still same count read = read.0 ∙ count
+  stops : (contents : Contents) (i : ℕ) (name : List ℕ) → i < length names → IsOfFiles tells (take i names) holds contents → slice_get names i ≡ Some name → (told : Type 0) (held : List ℕ) (first before now : ℕ) (old new : Contents)
+      (answer : UpdateAnswer) → (tells → told) → held ≡ holds name → before ≡ first → IsUpdateRead told held before now old new (Err answer) → AreFilesRead tells names holds first now (Err (in_place i answer))
+  stops contents i name inside of at told held first before now old new ReadFault still same count read =
+      (subst (λ (b : ℕ). Rose b now) count read.0, not_read contents i name inside of at)
+  stops contents i name inside of at told held first before now old new (BadFile fault) still same count read =
+      (read.0 ∙ count, refused contents i name read.1.0 fault inside of at (λ tell. read.1.1 (still tell) ∙ same) read.1.2)
+  stops contents i name inside of at told held first before now old new NoMemory still same count read = read.0 ∙ count
+
+  -- it ends the reading of the files, with its place
+  pub stopped : (contents : Contents) (place i : ℕ) (name : List ℕ) → place ≡ i → i < length names → IsOfFiles tells (take i names) holds contents → slice_get names i ≡ Some name → (told : Type 0) (held : List ℕ) (first before now : ℕ) (old new : Contents)
+      (answer : UpdateAnswer) (result : FilesAnswer) → result ≡ in_place place answer → (tells → told) → held ≡ holds name → before ≡ first → IsUpdateRead told held before now old new (Err answer) → AreFilesRead tells names holds first now (Err result)
+  stopped contents place i name at_place inside of at told held first before now old new answer result is still same count read =
+      subst (λ (r : FilesAnswer). AreFilesRead tells names holds first now (Err r)) (ap (λ (n : ℕ). in_place n answer) (sym at_place) ∙ sym is)
+      (stops contents i name inside of at told held first before now old new answer still same count read)

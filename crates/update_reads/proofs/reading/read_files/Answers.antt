@@ -1,10 +1,10 @@
-use Rattle.std.proofs.Common.{◌≡◌, ℕ, List, [], Some, sym, subst, length, refl, ap, ◌∙◌, arith}
+use Rattle.std.proofs.Common.{◌≡◌, ◌<◌, ℕ, List, [], Some, sym, subst, length, refl, ap, ◌∙◌, arith}
 use Rattle.std.proofs.lemmas.Option.{slice_get_read}
 use Rattle.std.specs.Prelude.{slice_get}
 use Rattle.uc_catalog.specs.Contents.{Contents}
-use Rattle.uc_cli.specs.Reading.{IsOfFiles}
-use Rattle.uc_cli.proofs.Files.{no_files, one_more, stopped}
-use Rattle.uc_cli.proofs.reading.read_files.Goals as goal
+use Rattle.update_reads.specs.Reading.{IsOfFiles}
+use Rattle.update_reads.proofs.Files.{no_files, one_more, stopped}
+use Rattle.update_reads.proofs.reading.read_files.Goals as goal
 
 pub names-init : goal.names-init
 names-init g c =
@@ -13,6 +13,7 @@ names-init g c =
     record {
       same = refl;
       still = λ tell. tell;
+      place = refl;
       count = refl;
       stands = subst (λ (contents : Contents). IsOfFiles tells [] holds contents) (sym c.new-catalog.ensures) (no_files tells c.args.names.now holds);
     }
@@ -25,17 +26,22 @@ names-preserved g c =
     record {
       same = c.in-Ok.ensures.same ∙ c.names.invariant.same;
       still = λ tell. c.in-Ok.ensures.still (c.names.invariant.still tell);
+      place = omega (arith, c.names.invariant.place);
       count = answer.0 ∙ c.names.invariant.count;
       stands = one_more _ c.args.names.now _ _ _ answer.1.0 c.names.name-index c.name-item.result c.names.invariant.stands answer.1.3 answer.1.1
           (λ tell. answer.1.2 (c.names.invariant.still tell) ∙ ap (λ (holds : List ℕ → List ℕ). holds c.name-item.result) c.names.invariant.same)
           at;
     }
 
+pub overflow_add-place : goal.overflow_add-place
+overflow_add-place g c = omega (arith, c.names.invariant.place, c.names-test.true, c.requires)
+
 pub returns-in-Err-clause-answer : goal.returns-in-Err-clause-answer
 returns-in-Err-clause-answer g c =
+    let inside : c.names.name-index < length c.args.names.now = omega (arith, c.names-test.true) in
     let at : slice_get c.args.names.now c.names.name-index ≡ Some c.name-item.result =
-    slice_get_read c.args.names.now (length c.args.names.now) c.names.name-index c.name-item.result refl (omega (arith, c.names-test.true)) c.name-item.is in
-    stopped _ c.args.names.now _ _ c.names.name-index c.name-item.result c.names.invariant.stands at _ _ _ _ _ _ _ c.in-Err.refusal c.names.invariant.still
+    slice_get_read c.args.names.now (length c.args.names.now) c.names.name-index c.name-item.result refl inside c.name-item.is in
+    stopped _ c.args.names.now _ _ _ c.names.name-index c.name-item.result c.names.invariant.place inside c.names.invariant.stands at _ _ _ _ _ _ _ c.in-Err.answer _ c.in_place.ensures c.names.invariant.still
     (ap (λ (holds : List ℕ → List ℕ). holds c.name-item.result) c.names.invariant.same)
     c.names.invariant.count
     c.in-Err.ensures.answer

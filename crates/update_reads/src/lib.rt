@@ -1,0 +1,9 @@
+//! The reading of update files for every command: one after another into a catalogue, up to the first that cannot be read
+//! or is refused.
+#![tactic(auto)]
+
+mod answers;
+mod reading;
+
+pub use answers::{FilesAnswer, UpdateAnswer};
+pub use reading::{read_files, read_update};
