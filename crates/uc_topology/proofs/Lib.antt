@@ -2,3 +2,4 @@ mod Body
 mod Fields
 mod Kept
 pub mod Laws
+pub mod Partition
