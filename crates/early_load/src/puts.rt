@@ -13,9 +13,9 @@ use patch_pool::{PatchId, PatchPool, PoolFull};
 use uc_catalog::Catalog;
 
 /// Puts the entry that each group is offered, in the order of the groups, and each entry once: groups with the same offer
-/// share its patch. Tells for each group the patch of its offer. There are at most 256 groups, and each offer is an entry of
-/// the catalogue. At the first entry for which no run of blocks is long enough the pool is full; what was put in this call
-/// is then freed again.
+/// share its patch. Tells for each group the patch of its offer; where these are freed, the pool is as before. There are at
+/// most 256 groups, and each offer is an entry of the catalogue. At the first entry for which no run of blocks is long
+/// enough the pool is full; what was put in this call is then freed again.
 pub fn put_offers(
     catalog: &Catalog,
     offers: &[Option<u32>],
@@ -26,6 +26,7 @@ pub fn put_offers(
     ensures put { IfOk result (λ places. ArePut (puts_of (blocks_in pool.old) catalog.now offers.now (patches_of pool.old)) offers.now (patches_of pool.new) places.items) }
     ensures held { IfOk result (λ places. (g first : ℕ) → place_at places.items g ≡ Some first → IsHeld (patches_of pool.new first)) }
     ensures others { IfOk result (λ places. (block : ℕ) → IsElsewhere places.items block → patches_of pool.new block ≡ patches_of pool.old block) }
+    ensures back { IfOk result (λ places. without places.items (patches_of pool.new) ≡ patches_of pool.old) }
     ensures full { IfErr result (λ full. (puts_of (blocks_in pool.old) catalog.now offers.now (patches_of pool.old) ≡ Err full.needed) × (patches_of pool.new ≡ patches_of pool.old)) }
     ensures size { blocks_in pool.new ≡ blocks_in pool.old }
 {

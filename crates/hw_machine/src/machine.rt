@@ -204,7 +204,7 @@ impl Machine {
     }
 
     /// Whether no thread of a group was up since power-up.
-    fn is_cold(&self, g: u16) -> bool
+    pub fn is_cold(&self, g: u16) -> bool
         ensures { result ≡ all_cold (setting_of self.now) (hardware_of self.now) g }
     {
         for t in 0..self.threads() {

@@ -69,3 +69,6 @@ returns-clause-held c = all_held _ _ _ _ _ _ _ c.loop-g.invariant.so_far
 
 pub returns-clause-others : goal.returns-clause-others
 returns-clause-others c = others_stand _ _ _ _ _ _ _ c.loop-g.invariant.so_far
+
+pub returns-clause-back : goal.returns-clause-back
+returns-clause-back c = taken_back _ _ _ _ _ _ _ c.loop-g.invariant.so_far
