@@ -1,3 +1,3 @@
 mod Steps
-mod Outcomes
+pub mod Outcomes
 mod Left

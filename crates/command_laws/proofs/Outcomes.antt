@@ -12,6 +12,7 @@ use Rattle.rendezvous_steps.specs.declared.ends.Beat.{Beat}
 use Rattle.rendezvous_steps.specs.declared.ends.End.{End}
 use Rattle.rendezvous_steps.specs.declared.ends.End.TheVariants as ends
 use Rattle.rendezvous_steps.specs.Plan.{Plan, Sound, is_primary}
+use Rattle.rendezvous_steps.specs.Words.{families}
 use Rattle.rendezvous_steps.specs.Padded.{Padded}
 use Rattle.rendezvous_model.specs.Round.{Place, Left, Stage, Gathering, Going, DroppedByKick, DroppedBy, State, is_going}
 use Rattle.rendezvous_model.specs.Safe.{Safe}
@@ -19,12 +20,16 @@ use Rattle.rendezvous_model.specs.Outcome.{Outcome, end_of, decide_of}
 use Rattle.rendezvous_model.specs.Verdict.{end_at}
 use Rattle.rendezvous_rule.specs.Shown.{shown_by}
 use Rattle.rendezvous_rule.specs.Ran.{Ran, Listed, Unlisted, AfterGo, AfterDrop, events_of, ended_offline, revision_after_go, primary_result, sibling_result}
+use Rattle.rule_laws.specs.Kept.{Ruled}
+use Rattle.rule_laws.proofs.Assemble.{shown_is_seen}
 use Rattle.rule_laws.proofs.Safety.{ruled_is_safe}
 use Rattle.play_laws.specs.Lawful.{Lawful, EventLaw, OpeningIsLawful}
 use Rattle.command_laws.specs.Left.{has_succeeded}
 
 -- what a run comes to, by groups and threads of its plan
 pub record RanLeaves (plan : Plan) (outcome : Outcome) : Type 0 where
+  pub an_end_each : length outcome.ends ≡ plan.threads
+  pub decided : outcome.decide < 3 + plan.threads
   pub a_revision_each : length outcome.revs ≡ plan.groups
   pub dropped : 2 ≤ outcome.decide → (g : ℕ) → g < plan.groups → slice_index outcome.revs g ≡ plan.rev0 g
   pub succeeded : (t : ℕ) → t < plan.threads → has_succeeded (end_at outcome t) ≡ true →
@@ -40,6 +45,23 @@ past_no_end ends_of t success = elim (cases_lt t (length ends_of)) [
   | inl below ↦ below
   | inr past ↦ fails (get_or ends_of t ends.Absent) ends.Absent (get_or_past ends_of t ends.Absent past) refl success
 ]
+
+-- ---- decisions
+
+-- an Online thread is one of the plan's
+online_within : (plan : Plan) (t : ℕ) → Padded plan → plan.kind t ≡ Online → t < plan.threads
+online_within plan t padded online = elim (cases_lt t plan.threads) [
+  | inl below ↦ below
+  | inr past ↦ let wrong : KindAbsent ≡ Online = sym (padded.no_thread t past) ∙ online in absurd cc
+]
+
+-- what is decided names a thread of the plan, if any
+stage_within : (threads : ℕ) (stage : Stage) → ((t : ℕ) → stage ≡ DroppedBy t → t < threads) →
+    decide_of stage < 3 + threads
+stage_within threads Gathering within = omega arith
+stage_within threads Going within = omega arith
+stage_within threads DroppedByKick within = omega arith
+stage_within threads (DroppedBy t) within = let below : t < threads = within t refl in omega (arith, below)
 
 -- ---- runs that list nothing
 
@@ -112,9 +134,21 @@ module _ (plan : Plan) (text : List ℕ) (outcome : Outcome) (late : Bool) (soun
     | inr more ↦ after_a_drop (ran.after_drop more) (plan.kind t) refl
   ]
 
-unlisted_leaves : (plan : Plan) (text : List ℕ) (outcome : Outcome) (late : Bool) → Sound plan →
+unlisted_decided : (plan : Plan) (text : List ℕ) (outcome : Outcome) (late : Bool) → Padded plan →
+    Unlisted plan text outcome late → outcome.decide < 3 + plan.threads
+unlisted_decided plan text outcome late padded ran = elim (cases_lt outcome.decide 3) [
+  | inl less ↦ omega (arith, less)
+  | inr more ↦
+      let within : outcome.decide - 3 < plan.threads =
+      online_within plan (outcome.decide - 3) padded ((ran.after_drop (omega (arith, more))).by_online more) in
+      omega (arith, more, within)
+]
+
+unlisted_leaves : (plan : Plan) (text : List ℕ) (outcome : Outcome) (late : Bool) → Sound plan → Padded plan →
     Unlisted plan text outcome late → RanLeaves plan outcome
-unlisted_leaves plan text outcome late sound ran = record {
+unlisted_leaves plan text outcome late sound padded ran = record {
+  an_end_each = ran.an_end_each;
+  decided = unlisted_decided plan text outcome late padded ran;
   a_revision_each = ran.a_revision_each;
   dropped = λ two. (ran.after_drop two).revisions;
   succeeded = λ t within success. unlisted_holds plan text outcome late sound ran t within success;
@@ -176,8 +210,25 @@ module _ (line : Item → List ℕ) (plan : Plan) (beats : List Beat) (text : Li
       plan.offer (plan.group t) ≡ Some (slice_index outcome.revs (plan.group t))
   offer_is t within is = is ∙ ap Some (sym (revision_is (plan.group t) (sound.groups_in_range t within)))
 
+  -- a thread that dropped is one of the plan's
+  dropper_within : (t : ℕ) → last.stage ≡ DroppedBy t → t < plan.threads
+  dropper_within t is =
+      let ruled : Ruled plan (ran.moments (length ran.items)) = (lawful (length ran.items) (omega arith)).ruled in
+      let seen : last.stage ≡ ruled.stage =
+      ap (λ (s : State). s.stage)
+      (shown_is_seen plan (families (ran.moments (length ran.items)).words) (ran.moments (length ran.items)).locals ruled.first
+      ruled.stage (ran.moments (length ran.items)).latched sound padded ruled.by) in
+      online_within plan t padded (ruled.by.gathered.dropped_by_online t (sym seen ∙ is))
+
+  ends_count : length outcome.ends ≡ plan.threads
+  ends_count =
+      ap length ran.comes_out.ends ∙ length-map-range_with_len (λ u. end_of (last.place u)) 0 (plan.threads - 0) ∙ omega arith
+
   listed_leaves : RanLeaves plan outcome
   listed_leaves = record {
+    an_end_each = ends_count;
+    decided = subst (λ (n : ℕ). n < 3 + plan.threads) (sym ran.comes_out.decide)
+        (stage_within plan.threads last.stage dropper_within);
     a_revision_each = ap length ran.comes_out.revs ∙ length-map-range_with_len last.revision 0 plan.groups;
     dropped = λ two g below.
         revision_is g below ∙ (safe.nothing_without_go
@@ -189,9 +240,7 @@ module _ (line : Item → List ℕ) (plan : Plan) (beats : List Beat) (text : Li
         ];
     within = λ t success.
         let below : t < length outcome.ends = past_no_end outcome.ends t success in
-        let count : length outcome.ends ≡ plan.threads - 0 = ap length ran.comes_out.ends
-        ∙ length-map-range_with_len (λ u. end_of (last.place u)) 0 (plan.threads - 0) in
-        omega arith;
+        subst (λ (n : ℕ). t < n) ends_count below;
   }
 
 pub ran_leaves : EventLaw → OpeningIsLawful →
@@ -200,4 +249,4 @@ pub ran_leaves : EventLaw → OpeningIsLawful →
 ran_leaves law opens line true plan beats text outcome late sound padded ran =
     listed_leaves line plan beats text outcome law opens sound padded ran
 ran_leaves law opens line false plan beats text outcome late sound padded ran =
-    unlisted_leaves plan text outcome late sound ran
+    unlisted_leaves plan text outcome late sound padded ran

@@ -1,1 +1,4 @@
 pub mod Searches
+pub mod Playing
+mod Acting
+mod Meeting

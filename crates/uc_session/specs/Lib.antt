@@ -1,3 +1,6 @@
 pub mod Verdicts
 pub mod Sessions
-pub mod Held
+pub mod Acts
+pub mod Boots
+pub mod Meeting
+pub mod Playing

@@ -3,7 +3,8 @@
 //! The session is written over any rendezvous, any files and any sink. `verdict` is what a load makes of an outcome.
 #![tactic(auto)]
 
-mod commands;
+mod acted;
+mod plain;
 mod sessions;
 mod verdicts;
 

@@ -1,35 +1,31 @@
 //! A session between two commands.
 
-ghost use Rattle.std.specs.Prelude.{◌≡◌, ◌≢◌, ◌<◌, ◌≤◌, ℕ, true, None, IfOk, length};
+ghost use Rattle.std.specs.Prelude.{◌≡◌, ◌<◌, ◌≤◌, IfOk, length};
 ghost use Rattle.uc_topology.specs.Stated.{group_count};
-ghost use Rattle.machine_steps.specs.Hardware.{setting_of as stated_setting};
-ghost use Rattle.hw_machine.specs.Machine.{setting_of as machine_setting};
 ghost use Rattle.patch_pool.specs.Pool.{patches_of, blocks_in};
-ghost use Rattle.early_load.specs.Caches.{groups_of, cached_of, first_block, AreHeld, HoldsJustCached};
-ghost use Rattle.machine_steps.specs.Puts.{is_cached};
-ghost use Rattle.uc_session.specs.Held.{AreHeld-prop};
-ghost use Rattle.session_steps.specs.State.{opening_state};
+ghost use Rattle.early_load.specs.Caches.{first_block, HoldsJustCached};
+ghost use Rattle.session_steps.specs.State.{opening_state, machine_of};
+ghost use Rattle.session_steps.specs.Played.{IsPlayed};
+ghost use Rattle.uc_session.specs.Playing.{BeatsInRange};
+ghost use Rattle.file_reads.specs.Reads.{AreHeld};
+ghost use Rattle.session_laws.specs.Standing.{Standing, InRange};
+ghost use Rattle.session_parts.specs.Parts.{setting_of as parts_setting, state_of as parts_state};
 
-use early_load::PatchCache;
-use hw_machine::{Machine, Power, ThreadState};
+use hw_machine::{Power, ThreadState};
 use patch_pool::{PatchId, PatchPool};
+use session_laws::each_state_stands;
+use session_parts::Parts;
 use std::alloc::Global;
 use uc_bytes::NoMemory;
 use uc_topology::Topology;
 
-/// A session on the machine that a topology states: the machine, the region of patches, and what each group caches. The
-/// region always holds just the cached patches. It is large, so keep it in one place.
+/// A session on the machine that a topology states: the machine, the region of patches, and what each group caches. Between
+/// two commands its state stands: while power is on thread 0 is up, and the region holds just the patches that groups cache.
+/// It is large, so keep it in one place.
 #[derive(Debug, Drop)]
 pub struct Session {
-    pub(crate) topology: Topology,
-    pub(crate) machine: Machine,
-    pub(crate) pool: PatchPool,
-    pub(crate) cache: PatchCache,
-    patience: u32,
-    ghost states: { machine_setting machine ≡ stated_setting topology.stated },
-    ghost groups: { groups_of cache ≡ (machine_setting machine).groups },
-    ghost held: { AreHeld (groups_of cache) (patches_of pool) (cached_of cache) } by { AreHeld-prop (groups_of cache) (patches_of pool) (cached_of cache) },
-    ghost only: { (block : ℕ) → patches_of pool block ≢ None → is_cached (groups_of cache) (cached_of cache) block ≡ true },
+    pub(crate) parts: Parts,
+    ghost standing: { Standing (parts_setting parts) (parts_state parts) },
 }
 
 impl Session {
@@ -48,16 +44,9 @@ impl Session {
         ensures setting { IfOk result (λ session. setting_of session ≡ record { machine = topology.now; blocks = pool; patience = patience }) }
         ensures opening { IfOk result (λ session. state_of session ≡ opening_state (setting_of session)) }
     {
-        let pool = PatchPool::new(alloc, pool)?;
-        let machine = Machine::new(topology);
-        let cache = PatchCache::new(machine.groups());
-        Ok(Session {
-            topology: topology.copy(),
-            machine,
-            pool,
-            cache,
-            patience,
-        })
+        each_state_stands();
+        let parts = Parts::new(alloc, topology, pool, patience)?;
+        Ok(Session { parts })
     }
 
     /// The revision of a group.
@@ -65,7 +54,7 @@ impl Session {
         requires { g < group_count (setting_of self.now).machine.stated.cores }
         ensures { result ≡ (state_of self.now).hardware.rev g }
     {
-        self.machine.rev(g)
+        self.parts.rev(g)
     }
 
     /// What a thread does.
@@ -73,14 +62,14 @@ impl Session {
         requires { t < length (setting_of self.now).machine.stated.threads }
         ensures { result ≡ (state_of self.now).hardware.thread t }
     {
-        self.machine.state(t)
+        self.parts.state(t)
     }
 
     /// Whether the machine is powered.
     pub fn power(&self) -> Power
         ensures { result ≡ (state_of self.now).hardware.power }
     {
-        self.machine.power()
+        self.parts.power()
     }
 
     /// The region. Its contract says also that it holds just the patches that groups cache.
@@ -89,7 +78,7 @@ impl Session {
         ensures blocks { blocks_in result.now ≡ (setting_of self.now).blocks }
         ensures just_cached { HoldsJustCached (group_count (setting_of self.now).machine.stated.cores) (state_of self.now).patches (state_of self.now).cached }
     {
-        &self.pool
+        self.parts.pool()
     }
 
     /// The patch that a group caches.
@@ -97,6 +86,6 @@ impl Session {
         requires { g < group_count (setting_of self.now).machine.stated.cores }
         ensures { first_block result ≡ (state_of self.now).cached g }
     {
-        self.cache.cached(g)
+        self.parts.cached(g)
     }
 }

@@ -1,13 +1,13 @@
-use Rattle.std.proofs.Common.{◌≡◌, ℕ, List, Option, None, Some, sym, ap, ◌∙◌}
+use Rattle.std.proofs.Common.{sym, subst}
+use Rattle.session_steps.specs.State.{State}
+use Rattle.session_laws.specs.Standing.{Standing}
+use Rattle.session_parts.specs.Parts.{setting_of}
 use Rattle.uc_session.proofs.sessions.Session.new.Goals as goal
 
-none_is_some : (first : ℕ) → None ≡ Some first → ⊥
-none_is_some first is = cc
-
-pub invariant_of-result-clause-held : goal.invariant_of-result-clause-held
-invariant_of-result-clause-held c = λ g first within is.
-    absurd (none_is_some first (sym (ap (λ (f : ℕ → Option ℕ). f g) c.new-cache.ensures.none) ∙ is))
-
-pub invariant_of-result-clause-only : goal.invariant_of-result-clause-only
-invariant_of-result-clause-only c = λ block some.
-    absurd (some (ap (λ (p : ℕ → Option (List ℕ)). p block) c.in_ok-pool.ensures.empty))
+-- the opening state stands
+pub invariant_of-result : goal.invariant_of-result
+invariant_of-result c = record {
+  standing =
+      subst (λ (state : State). Standing (setting_of c.in_ok-parts.parts) state) (sym c.in_ok-parts.ensures.opening)
+      (c.each_state_stands.ensures.opening (setting_of c.in_ok-parts.parts));
+}

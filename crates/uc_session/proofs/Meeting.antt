@@ -1,0 +1,291 @@
+-- A load that has something to offer, as a step of a session.
+use Rattle.std.proofs.Common.{◌≡◌, ℕ, ◌≤◌, Bool, false, List, [], ◌∷◌, ◌++◌, Option, None, Some, Result, Ok, Err, refl, sym, ap, ◌∙◌, subst, arith, append_assoc}
+use Rattle.uc_io.specs.Faults.{Rose}
+use Rattle.uc_io.specs.Writing.{Grew, Writes}
+use Rattle.uc_io.proofs.Writes.{Writes-then}
+use Rattle.file_entries.specs.Entry.{Entry}
+use Rattle.file_reads.specs.Reads.{Read, AreHeld}
+use Rattle.rendezvous_steps.specs.declared.ends.Beat.{Beat}
+use Rattle.rendezvous_steps.specs.Plan.{Plan, Sound}
+use Rattle.rendezvous_steps.specs.Padded.{Padded}
+use Rattle.rendezvous_model.specs.Outcome.{Outcome}
+use Rattle.rendezvous_model.specs.Verdict.{Verdict, LoadVerdict, load_verdict}
+use Rattle.rendezvous_model.specs.Verdict as verdict
+use Rattle.rendezvous_rule.specs.Ran.{Ran}
+use Rattle.rendezvous_rule.specs.Runs.{RunOf, SomeRun}
+use Rattle.round_laws.specs.Laws.{VerdictHolds}
+use Rattle.item_text.specs.Items.{item_line}
+use Rattle.machine_steps.specs.Puts.{Puts}
+use Rattle.script_text.specs.declared.command.Command.{Command}
+use Rattle.script_text.specs.declared.command.Command.TheVariants as command
+use Rattle.session_text.specs.Lines.{answer_line}
+use Rattle.session_text.specs.declared.answers.CommandAnswer.{CommandAnswer}
+use Rattle.session_text.specs.declared.answers.Played.{Played}
+use Rattle.session_text.specs.declared.answers.Played.TheVariants.{Answered, WriteFault, NoMemory}
+use Rattle.session_steps.specs.State.{Setting, State}
+use Rattle.session_steps.specs.Offers.{AreLoadOffers, SomethingOffered, load_offers_text, plan_of}
+use Rattle.session_steps.specs.Did.{Did, results_text, loaded}
+use Rattle.session_steps.specs.Step as rows
+use Rattle.session_steps.specs.Step.{SessionStep, LoadRow, AllPresent, ReadAll, answer_of, met, run_of}
+use Rattle.session_steps.specs.Played.{is_read_fault, FileCause, ran_once}
+use Rattle.session_parts.specs.Boots.{puts_of}
+use Rattle.ctl_core.specs.declared.outcomes.Outcome.{Outcome as Tables}
+use Rattle.ctl_core.specs.declared.runs.RunAnswer.{RunAnswer}
+use Rattle.ctl_core.specs.declared.runs.RunAnswer.TheVariants as run
+use Rattle.ctl_core.specs.Runs.{IsRun}
+use Rattle.uc_session.specs.Meeting.{CameTo, CutShort, Meets}
+use Rattle.uc_session.specs.Playing.{told_of, Follows, Does}
+use Rattle.uc_session.proofs.Playing as playing
+use Rattle.uc_session.proofs.Playing.{come}
+
+-- ---- what is offered, and the run
+
+module _ {D : Type 0} (stands : D → List ℕ → Type 0) (faults : D → ℕ) (lists : Bool) (plan : Plan) (beats : List Beat) (offered : List ℕ) where
+  -- what is offered was not all written
+  pub not_offered : {E : Type 0} (e : E) (before now : D) → SomeRun item_line lists plan beats →
+      Writes {E = E} stands faults before now offered (Err e) →
+      CutShort stands faults lists plan beats offered before now × Rose (faults before) (faults now)
+  not_offered e before now some wrote = (
+    record {
+      run = some;
+      front = wrote.outcome.0.front;
+      is_front = (
+        wrote.outcome.0.rest ++ some.text,
+        ap (λ text. text ++ some.text) wrote.outcome.0.split
+            ∙ append_assoc wrote.outcome.0.front wrote.outcome.0.rest some.text,
+      );
+      later = wrote.later;
+      grew = wrote.outcome.0.grew;
+    },
+    wrote.outcome.1,
+  )
+
+  -- it was written, and then the threads met
+  pub they_met : {E : Type 0} (runs_before runs_now : List RunOf) (before mid now : D) (result : Result Tables RunAnswer) →
+      SomeRun item_line lists plan beats →
+      Writes {E = E} stands faults before mid offered (Ok tt) →
+      IsRun stands faults lists plan beats runs_before runs_now mid now result →
+      Meets stands faults lists plan beats offered runs_before runs_now before now result
+  they_met {E = E} runs_before runs_now before mid now (Ok outcome) some wrote is = record {
+    items = is.answer.text;
+    late = is.answer.late;
+    ran = is.answer.ran;
+    wrote = Writes-then stands faults before mid now offered is.answer.text {E = Unit {0}} (Ok tt)
+        (record { later = wrote.later; outcome = wrote.outcome }) (record { later = is.later; outcome = is.answer.grew });
+    kept = is.answer.kept;
+  }
+  they_met {E = E} runs_before runs_now before mid now (Err run.WriteFault) some wrote is =
+      let front : List ℕ = is.answer.front.front in
+      let grew : Writes {E = E} stands faults before now (offered ++ front) (Ok tt) =
+      Writes-then stands faults before mid now offered front {E = E} (Ok tt) wrote (record { later = is.later; outcome = is.answer.front.grew }) in (
+        record {
+          run = is.answer.run;
+          front = offered ++ front;
+          is_front = (
+            is.answer.front.rest,
+            ap (λ text. offered ++ text) is.answer.front.split ∙ sym (append_assoc offered front is.answer.front.rest),
+          );
+          later = grew.later;
+          grew = grew.outcome;
+        },
+        grind (arith, wrote.later, is.later, is.answer.rose),
+      )
+  they_met {E = E} runs_before runs_now before mid now (Err run.NoMemory) some wrote is =
+      let grew : Writes {E = E} stands faults before now offered (Ok tt) =
+      subst (λ (last : D). Writes {E = E} stands faults before last offered (Ok tt)) (sym is.answer.same_sink) wrote in
+      record {
+        run = some;
+        front = offered;
+        is_front = (some.text, refl);
+        later = grew.later;
+        grew = grew.outcome;
+      }
+
+-- ---- the load
+
+module _ (lists : Bool) (setting : Setting) (old : State) (force : Bool) (names : List (List ℕ)) (beats : List Beat)
+    (reads : List Read) (entries : List Entry) (offers : List (Option ℕ)) (puts : Puts) where
+  abbrev plan : Plan
+  plan = plan_of setting old puts offers
+
+  -- what it does, by what the rendezvous comes to
+  abbrev pub load_did : List ℕ → Outcome → Bool → CommandAnswer → Did
+  load_did items outcome late answer =
+      met setting old reads entries puts offers plan items (run_of plan outcome late) answer
+
+  shown_is : (items : List ℕ) (outcome : Outcome) (late : Bool) (answer : CommandAnswer) →
+      (load_did items outcome late answer).shown ≡ load_offers_text setting old entries offers ++ items
+  unfolding met
+  shown_is items outcome late answer = refl
+
+  reads_are : (items : List ℕ) (outcome : Outcome) (late : Bool) (answer : CommandAnswer) →
+      (load_did items outcome late answer).reads ≡ reads
+  unfolding met
+  reads_are items outcome late answer = refl
+
+  answer_is : (items : List ℕ) (outcome : Outcome) (late : Bool) (answer : CommandAnswer) →
+      (load_did items outcome late answer).answer ≡ answer
+  unfolding met
+  answer_is items outcome late answer = refl
+
+  after_is : (items : List ℕ) (outcome : Outcome) (late : Bool) (answer : CommandAnswer) →
+      (load_did items outcome late answer).after ≡ loaded setting old puts offers plan outcome
+  unfolding met
+  after_is items outcome late answer = refl
+
+  told_is : (items : List ℕ) (outcome : Outcome) (late : Bool) (answer : CommandAnswer) →
+      (load_did items outcome late answer).told ≡ results_text setting old plan outcome
+  unfolding met
+  told_is items outcome late answer = refl
+
+  ran_is : (items : List ℕ) (outcome : Outcome) (late : Bool) (answer : CommandAnswer) →
+      (load_did items outcome late answer).ran ≡ Some (run_of plan outcome late)
+  unfolding met
+  ran_is items outcome late answer = refl
+
+  -- no verdict is a read fault
+  never_unread : (found : Verdict) → is_read_fault (answer_of found) ≡ false
+  never_unread verdict.Done = refl
+  never_unread (verdict.Panicked t) = refl
+  never_unread (verdict.Unfinished t) = refl
+  never_unread (verdict.OfflineSilent kicks) = refl
+  never_unread (verdict.TimedOut t) = refl
+  never_unread (verdict.Failed t) = refl
+  never_unread (verdict.Incomplete t) = refl
+
+  module _ (present : AllPresent setting old) (read : ReadAll names reads entries)
+      (are_offers : AreLoadOffers setting old force entries offers) (something : SomethingOffered offers)
+      (put : puts_of setting old entries offers ≡ Ok puts) (sound : Sound plan) (padded : Padded plan) where
+    abbrev one : Command
+    one = command.Load force names beats
+
+    -- the same for every verdict
+    load_meets : (items : List ℕ) (outcome : Outcome) (late : Bool) (found : Verdict) →
+        Ran item_line lists plan beats items outcome late → LoadVerdict plan outcome found →
+        rows.Meets lists setting old force names beats (load_did items outcome late (answer_of found)) (answer_of found)
+    unfolding met
+    load_meets items outcome late found ran holds = record {
+      entries = entries;
+      read = read;
+      offers = offers;
+      are_offers = are_offers;
+      something = something;
+      puts = puts;
+      put = put;
+      sound = sound;
+      padded = padded;
+      items = items;
+      outcome = outcome;
+      late = late;
+      ran = ran;
+      verdict = found;
+      is_verdict = holds;
+      is_answer = refl;
+      does = refl;
+    }
+
+    row_of : (did : Did) (found : Verdict) → rows.Meets lists setting old force names beats did (answer_of found) →
+        LoadRow lists setting old force names beats did (answer_of found)
+    row_of did verdict.Done meets = (present, meets)
+    row_of did (verdict.Panicked t) meets = (present, meets)
+    row_of did (verdict.Unfinished t) meets = (present, meets)
+    row_of did (verdict.OfflineSilent kicks) meets = (present, meets)
+    row_of did (verdict.TimedOut t) meets = (present, meets)
+    row_of did (verdict.Failed t) meets = (present, meets)
+    row_of did (verdict.Incomplete t) meets = (present, meets)
+
+    load_step : (items : List ℕ) (outcome : Outcome) (late : Bool) (found : Verdict) →
+        Ran item_line lists plan beats items outcome late → LoadVerdict plan outcome found →
+        SessionStep lists setting old one (load_did items outcome late (answer_of found))
+    load_step items outcome late found ran holds =
+        subst (LoadRow lists setting old force names beats (load_did items outcome late (answer_of found)))
+        (sym (answer_is items outcome late (answer_of found)))
+        (row_of (load_did items outcome late (answer_of found)) found (load_meets items outcome late found ran holds))
+
+    -- ---- the call
+
+    module _ {D : Type 0} (stands : D → List ℕ → Type 0) (faults : D → ℕ) (tells : Type 0) (holds : List ℕ → List ℕ)
+        (held : tells → AreHeld holds reads) (files_before files_now : ℕ) (still : files_now ≡ files_before)
+        (runs_before runs_now : List RunOf) (before : D) where
+      abbrev offered : List ℕ
+      offered = load_offers_text setting old entries offers
+
+      abbrev Done : State → D → Played → Type 0
+      Done new now come =
+          Does stands faults lists tells holds setting one files_before files_now runs_before runs_now old new before now come
+
+      cause_of : (items : List ℕ) (outcome : Outcome) (late : Bool) (found : Verdict) →
+          FileCause (is_read_fault (load_did items outcome late (answer_of found)).answer) files_before files_now
+      cause_of items outcome late found =
+          subst (λ (unread : Bool). FileCause unread files_before files_now)
+          (sym (ap is_read_fault (answer_is items outcome late (answer_of found)) ∙ never_unread found)) still
+
+      held_of : (items : List ℕ) (outcome : Outcome) (late : Bool) (answer : CommandAnswer) → tells →
+          AreHeld holds (load_did items outcome late answer).reads
+      held_of items outcome late answer told =
+          subst (λ (all : List Read). AreHeld holds all) (sym (reads_are items outcome late answer)) (held told)
+
+      module _ (verdicts : VerdictHolds) (now : D) (cut : CutShort stands faults lists plan beats offered before now) where
+        abbrev found : Verdict
+        found = load_verdict plan cut.run.outcome
+
+        abbrev did : Did
+        did = load_did cut.run.text cut.run.outcome cut.run.late (answer_of found)
+
+        stops : (come : Played) → ((answer : CommandAnswer) → come ≡ Answered answer → ⊥) →
+            Follows stands faults one did old old before now come → Done old now come
+        stops come never follows = record {
+          did = did;
+          step = load_step cut.run.text cut.run.outcome cut.run.late found cut.run.ran (verdicts plan cut.run.outcome);
+          held = held_of cut.run.text cut.run.outcome cut.run.late (answer_of found);
+          cause = cause_of cut.run.text cut.run.outcome cut.run.late found;
+          rest = follows;
+          kept = λ answer is. absurd (never answer is);
+        }
+
+        split : did.shown ≡ cut.front ++ cut.is_front.0
+        split = shown_is cut.run.text cut.run.outcome cut.run.late (answer_of found) ∙ cut.is_front.1
+
+        -- not all was written of what a load shows, and the state is as it was
+        pub is_cut : Rose (faults before) (faults now) → Done old now WriteFault
+        is_cut rose =
+            stops WriteFault (λ answer is. cc)
+            (playing.cut stands faults one did old before now cut.front cut.is_front.0 cut.later split cut.grew rose)
+
+        -- memory ran out
+        pub is_out : Done old now NoMemory
+        is_out =
+            stops NoMemory (λ answer is. cc)
+            (playing.out stands faults one did old before now cut.front cut.is_front.0 cut.later split cut.grew)
+
+      -- the threads met, the state has changed, and the rest was written, or not all of it
+      pub is_met : {E : Type 0} (mid now : D) (outcome : Outcome) (found : Verdict) (r : Result (Unit {0}) E) →
+          (came : CameTo stands faults lists plan beats offered runs_before runs_now before mid outcome) →
+          LoadVerdict plan outcome found →
+          Writes stands faults mid now (results_text setting old plan outcome ++ answer_line names (answer_of found)) r →
+          Done (loaded setting old puts offers plan outcome) now (come (answer_of found) r)
+      is_met {E = E} mid now outcome found r came holds_of wrote =
+          let made : Did = load_did came.items outcome came.late (answer_of found) in
+          let same : told_of one made ≡ results_text setting old plan outcome ++ answer_line names (answer_of found) =
+          ap (λ told. told ++ answer_line names made.answer) (told_is came.items outcome came.late (answer_of found))
+          ∙ ap (λ (a : CommandAnswer). results_text setting old plan outcome ++ answer_line names a)
+          (answer_is came.items outcome came.late (answer_of found)) in
+          let rest : Follows stands faults one made old made.after before now (come made.answer r) =
+          playing.told stands faults one made old before mid now r
+          (subst (λ text. Writes {E = E} stands faults before mid text (Ok tt)) (sym (shown_is came.items outcome came.late (answer_of found)))
+          (record { later = came.wrote.later; outcome = came.wrote.outcome }))
+          (subst (λ text. Writes stands faults mid now text r) (sym same) wrote) in
+          record {
+            did = made;
+            step = load_step came.items outcome came.late found came.ran holds_of;
+            held = held_of came.items outcome came.late (answer_of found);
+            cause = cause_of came.items outcome came.late found;
+            rest =
+                subst (λ (a : CommandAnswer). Follows stands faults one made old (loaded setting old puts offers plan outcome) before now (come a r))
+                (answer_is came.items outcome came.late (answer_of found))
+                (subst (λ (after : State). Follows stands faults one made old after before now (come made.answer r))
+                (after_is came.items outcome came.late (answer_of found)) rest);
+            kept = λ answer is unlisted.
+                came.kept unlisted
+                ∙ ap (λ (ran : Option RunOf). runs_before ++ ran_once ran) (sym (ran_is came.items outcome came.late (answer_of found)));
+          }

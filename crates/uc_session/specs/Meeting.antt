@@ -1,0 +1,39 @@
+-- What comes of a load that has something to offer.
+use Rattle.std.specs.Prelude.{◌≡◌, ℕ, ◌≤◌, Bool, false, List, [], ◌∷◌, ◌++◌, Result, Ok, Err}
+use Rattle.uc_io.specs.Faults.{Rose}
+use Rattle.uc_io.specs.Writing.{Grew, Writes}
+use Rattle.top_call.specs.Written.{IsFront}
+use Rattle.rendezvous_steps.specs.declared.ends.Beat.{Beat}
+use Rattle.rendezvous_steps.specs.Plan.{Plan}
+use Rattle.rendezvous_model.specs.Outcome.{Outcome}
+use Rattle.rendezvous_rule.specs.Ran.{Ran}
+use Rattle.rendezvous_rule.specs.Runs.{RunOf, SomeRun}
+use Rattle.item_text.specs.Items.{item_line}
+use Rattle.ctl_core.specs.declared.outcomes.Outcome.{Outcome as Tables}
+use Rattle.ctl_core.specs.declared.runs.RunAnswer.{RunAnswer}
+use Rattle.ctl_core.specs.declared.runs.RunAnswer.TheVariants.{WriteFault, NoMemory}
+use Rattle.ctl_core.specs.Outcomes.{outcome_of}
+
+-- the rendezvous came to an outcome: what is offered was written, and then the text of the run
+pub record CameTo {D : Type 0} (stands : D → List ℕ → Type 0) (faults : D → ℕ) (lists : Bool) (plan : Plan) (beats : List Beat) (offered : List ℕ) (runs_before runs_now : List RunOf) (before now : D) (outcome : Outcome) : Type 0 where
+  pub items : List ℕ
+  pub late : Bool
+  pub ran : Ran item_line lists plan beats items outcome late
+  pub wrote : Writes {E = Unit {0}} stands faults before now (offered ++ items) (Ok tt)
+  pub kept : lists ≡ false → runs_now ≡ runs_before ++ record { plan = plan; outcome = outcome; late = late } ∷ []
+
+-- a front was written of what is offered and the text of a run
+pub record CutShort {D : Type 0} (stands : D → List ℕ → Type 0) (faults : D → ℕ) (lists : Bool) (plan : Plan) (beats : List Beat) (offered : List ℕ) (before now : D) : Type 0 where
+  pub run : SomeRun item_line lists plan beats
+  pub front : List ℕ
+  pub is_front : IsFront front (offered ++ run.text)
+  pub later : faults before ≤ faults now
+  pub grew : Grew stands before now front
+
+abbrev pub Meets : {D : Type 0} → (D → List ℕ → Type 0) → (D → ℕ) → Bool → Plan → List Beat → List ℕ → List RunOf → List RunOf → D → D → Result Tables RunAnswer → Type 0
+Meets stands faults lists plan beats offered runs_before runs_now before now (Ok outcome) =
+    CameTo stands faults lists plan beats offered runs_before runs_now before now (outcome_of outcome)
+Meets stands faults lists plan beats offered runs_before runs_now before now (Err WriteFault) =
+    CutShort stands faults lists plan beats offered before now × Rose (faults before) (faults now)
+Meets stands faults lists plan beats offered runs_before runs_now before now (Err NoMemory) =
+    CutShort stands faults lists plan beats offered before now
