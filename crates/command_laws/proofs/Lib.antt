@@ -1,3 +1,3 @@
-mod Steps
+pub mod Steps
 pub mod Outcomes
 mod Left

@@ -1,0 +1,249 @@
+-- Commands of a script that were run one after another: one more of them, the last, and one that was cut short.
+use Rattle.std.proofs.Common.{◌≡◌, ◌&&◌, ◌++◌, ℕ, ◌+◌, Bool, true, false, List, [], ◌∷◌, length, Option, Some, None, refl, sym, ap, ◌∙◌, subst, append_assoc, append-nil}
+use Rattle.std.specs.List.{All}
+use Rattle.std.proofs.Math.Bool.{and-true}
+use Rattle.uc_io.specs.Faults.{Rose}
+use Rattle.uc_io.specs.Writing.{Grew}
+use Rattle.uc_topology.specs.Stated.{IsPartition}
+use Rattle.file_reads.specs.Reads.{Read, AreHeld}
+use Rattle.file_reads.proofs.Outcomes.{held_nil, held_append}
+use Rattle.rendezvous_rule.specs.Runs.{RunOf, AlwaysRuns}
+use Rattle.item_text.specs.Items.{item_line}
+use Rattle.script_text.specs.declared.command.Command.{Command}
+use Rattle.session_text.specs.declared.answers.CommandAnswer.{CommandAnswer}
+use Rattle.session_text.specs.declared.answers.SessionAnswer.{SessionAnswer}
+use Rattle.session_steps.specs.State.{Setting, State, opening_state}
+use Rattle.session_steps.specs.Did.{Did}
+use Rattle.session_steps.specs.Session.{Steps, ends_session, text_of, texts_from, all_reads, with_run, all_runs, is_done, all_done, ended_by, answer_by, short_unless, session_answer}
+use Rattle.session_steps.specs.Played.{FileCause, ran_once, Answers, Starts}
+use Rattle.session_steps.specs.Whole.{is_unread, PlaysWhole, PlaysFront}
+use Rattle.session_laws.specs.Standing.{InRange, OpeningStands}
+use Rattle.command_laws.specs.Steps.{SessionsExist}
+use Rattle.session_runs.specs.SoFar.{StepsTo, PlayedSoFar}
+use Rattle.session_runs.specs.Laws.{GoesOn, BegunGoesOn}
+use Rattle.session_runs.proofs.Answered.{goes_on_read, end_unread, all_done-append, answer_of_all, answer_of_end}
+use Rattle.session_runs.proofs.Going.{reads-append, runs-append, texts-behind, steps-behind, one_more_step, last_step}
+
+-- one text written after another
+grew_then : {D : Type 0} (stands : D → List ℕ → Type 0) (old mid new : D) (a b : List ℕ) →
+    Grew stands old mid a → Grew stands mid new b → Grew stands old new (a ++ b)
+grew_then stands old mid new a b first second = record {
+  each =
+      λ taken before. subst (stands new) (append_assoc taken a b) (second.each (taken ++ a) (first.each taken before));
+}
+
+ran_once-is : (ran : Option RunOf) → with_run ran [] ≡ ran_once ran
+ran_once-is None = refl
+ran_once-is (Some run) = refl
+
+-- a count of faults that stood until a command, by what caused it to rise in that command
+cause_since : (unread : Bool) (before now after : ℕ) → now ≡ before → FileCause unread now after →
+    FileCause unread before after
+cause_since true before now after stood cause = subst (λ (n : ℕ). Rose n after) stood cause
+cause_since false before now after stood cause = cause ∙ stood
+
+no_texts : (k : ℕ) (commands : List Command) → texts_from k commands [] ≡ []
+no_texts k [] = refl
+no_texts k (one ∷ commands) = refl
+
+regroup : (a b c d : List ℕ) → a ++ ((b ++ c) ++ d) ≡ (a ++ b) ++ (c ++ d)
+regroup a b c d = simp append_assoc
+
+not_both : (b : Bool) → b ≡ true → b ≡ false → ⊥
+not_both b is is_not = cc
+
+module _ {D : Type 0} (stands : D → List ℕ → Type 0) (lists : Bool) (tells : Type 0) (holds : List ℕ → List ℕ)
+    (setting : Setting) (files_0 : ℕ) (runs_0 : List RunOf) (sink_0 : D) where
+  abbrev pub SoFar : List Command → Bool → State → ℕ → List RunOf → D → Type 0
+  SoFar commands done state files runs sink =
+      PlayedSoFar stands lists tells holds setting commands done state files_0 files runs_0 runs sink_0 sink
+
+  abbrev pub held_where : List Read → Type 0
+  held_where reads = tells → AreHeld holds reads
+
+  -- ---- before the first
+
+  pub before_the_first : SoFar [] true (opening_state setting) files_0 runs_0 sink_0
+  before_the_first = record {
+    dids = [];
+    steps = refl;
+    held = λ told. held_nil holds;
+    is_done = refl;
+    grew = record { each = λ taken before. subst (stands sink_0) (sym (append-nil taken)) before };
+    no_fault = refl;
+    kept = λ unlisted. sym (append-nil runs_0);
+  }
+
+  module _ (commands : List Command) (done : Bool) (state : State) (files : ℕ) (runs : List RunOf) (sink : D)
+      (so_far : SoFar commands done state files runs sink) where
+    -- ---- all of them
+
+    cause_of_all : (all : Bool) → FileCause (is_unread (short_unless all)) files_0 files
+    cause_of_all true = so_far.no_fault
+    cause_of_all false = so_far.no_fault
+
+    -- all commands were answered, and none ended the session
+    pub all_played :
+        PlaysWhole stands lists held_where setting commands files_0 files runs_0 runs sink_0 sink (short_unless done)
+    all_played =
+        let steps : Steps lists setting (commands ++ []) (so_far.dids ++ []) =
+        steps-behind lists setting (opening_state setting) commands so_far.dids state [] [] so_far.steps tt in
+        record {
+          dids = so_far.dids;
+          may = record {
+            steps =
+                subst (λ (all : List Command). Steps lists setting all so_far.dids) (append-nil commands)
+                (subst (λ (all : List Did). Steps lists setting (commands ++ []) all) (append-nil so_far.dids) steps);
+            is_held = so_far.held;
+          };
+          is_answer =
+              ap short_unless so_far.is_done
+              ∙ sym (ap (λ (end : Option SessionAnswer). answer_by end (all_done so_far.dids))
+              (answer_of_all lists setting (opening_state setting) commands so_far.dids state so_far.steps));
+          grew = so_far.grew;
+          cause = cause_of_all done;
+          kept = so_far.kept;
+        }
+
+    -- ---- one behind them
+
+    module _ (k : ℕ) (place : k ≡ 1 + length commands) (one : Command) (held_now : List Read → Type 0)
+        (same : (reads : List Read) → held_now reads → held_where reads) where
+      texts_with : (rest : List Command) (did : Did) (more : List Did) →
+          texts_from 1 (commands ++ one ∷ rest) (so_far.dids ++ did ∷ more)
+          ≡ texts_from 1 commands so_far.dids ++ (text_of k one did ++ texts_from (k + 1) rest more)
+      texts_with rest did more =
+          texts-behind lists setting 1 (opening_state setting) commands so_far.dids state (one ∷ rest) (did ∷ more)
+          so_far.steps
+          ∙ ap (λ (n : ℕ). texts_from 1 commands so_far.dids ++ (text_of n one did ++ texts_from (n + 1) rest more))
+          (sym place)
+
+      reads_with : (did : Did) (more : List Did) → held_now did.reads → (tells → AreHeld holds (all_reads more)) →
+          held_where (all_reads (so_far.dids ++ did ∷ more))
+      reads_with did more held behind told =
+          subst (AreHeld holds) (sym (reads-append so_far.dids (did ∷ more)))
+          (held_append holds (all_reads so_far.dids) (did.reads ++ all_reads more) (so_far.held told)
+          (held_append holds did.reads (all_reads more) (same did.reads held told) (behind told)))
+
+      -- a command that was answered
+      module _ (files_next : ℕ) (runs_next : List RunOf) (next : State) (sink_next : D) (answer : CommandAnswer)
+          (is : Answers stands lists held_now setting k one files files_next runs runs_next state next sink sink_next
+          answer)
+        where
+          text_of_both : (rest : List Command) →
+              Grew stands sink_0 sink_next (texts_from 1 (commands ++ one ∷ rest) (so_far.dids ++ is.did ∷ []))
+          text_of_both rest =
+              let one_text : text_of k one is.did ++ texts_from (k + 1) rest [] ≡ text_of k one is.did =
+              ap (λ (text : List ℕ). text_of k one is.did ++ text) (no_texts (k + 1) rest)
+              ∙ append-nil (text_of k one is.did) in
+              subst (Grew stands sink_0 sink_next)
+              (sym (texts_with rest is.did []
+              ∙ ap (λ (text : List ℕ). texts_from 1 commands so_far.dids ++ text) one_text))
+              (grew_then stands sink_0 sink sink_next (texts_from 1 commands so_far.dids) (text_of k one is.did)
+              so_far.grew is.grew)
+
+          runs_of_both : lists ≡ false → runs_next ≡ runs_0 ++ all_runs (so_far.dids ++ is.did ∷ [])
+          runs_of_both unlisted =
+              is.kept unlisted
+              ∙ ap (λ (all : List RunOf). all ++ ran_once is.did.ran) (so_far.kept unlisted)
+              ∙ append_assoc runs_0 (all_runs so_far.dids) (ran_once is.did.ran)
+              ∙ ap (λ (all : List RunOf). runs_0 ++ all)
+              (sym (runs-append so_far.dids (is.did ∷ [])
+              ∙ ap (λ (all : List RunOf). all_runs so_far.dids ++ all) (ran_once-is is.did.ran)))
+
+          -- it did not end the session
+          pub one_more : ends_session answer ≡ false →
+              SoFar (commands ++ one ∷ []) (done && is_done answer) next files_next runs_next sink_next
+          one_more goes_on = record {
+            dids = so_far.dids ++ is.did ∷ [];
+            steps =
+                subst
+                (StepsTo lists setting (opening_state setting) (commands ++ one ∷ []) (so_far.dids ++ is.did ∷ []))
+                (sym is.is_after)
+                (one_more_step lists setting (opening_state setting) commands so_far.dids state one is.did so_far.steps
+                is.may.step (ap ends_session (sym is.is_answer) ∙ goes_on));
+            held = reads_with is.did [] is.may.is_held (λ told. held_nil holds);
+            is_done =
+                ap (λ (b : Bool). b && is_done answer) so_far.is_done
+                ∙ ap (λ (a : CommandAnswer). all_done so_far.dids && is_done a) is.is_answer
+                ∙ ap (λ (b : Bool). all_done so_far.dids && b) (sym (and-true (is_done is.did.answer)))
+                ∙ sym (all_done-append so_far.dids (is.did ∷ []));
+            grew = text_of_both [];
+            no_fault =
+                cause_since false files_0 files files_next so_far.no_fault
+                (subst (λ (b : Bool). FileCause b files files_next) (goes_on_read answer goes_on) is.cause);
+            kept = runs_of_both;
+          }
+
+          -- it ended the session
+          pub last_played : ends_session answer ≡ true → (rest : List Command) →
+              PlaysWhole stands lists held_where setting (commands ++ one ∷ rest) files_0 files_next runs_0 runs_next
+              sink_0 sink_next (answer_by (ended_by answer) false)
+          last_played ends rest =
+              let did_ends : ends_session is.did.answer ≡ true = ap ends_session (sym is.is_answer) ∙ ends in
+              record {
+                dids = so_far.dids ++ is.did ∷ [];
+                may = record {
+                  steps =
+                      last_step lists setting commands rest one so_far.dids state is.did so_far.steps is.may.step
+                      did_ends;
+                  is_held = reads_with is.did [] is.may.is_held (λ told. held_nil holds);
+                };
+                is_answer =
+                    ap (λ (a : CommandAnswer). answer_by (ended_by a) false) is.is_answer
+                    ∙ sym (answer_of_end lists setting (opening_state setting) commands so_far.dids state so_far.steps
+                    is.did did_ends);
+                grew = text_of_both rest;
+                cause =
+                    cause_since (is_unread (answer_by (ended_by answer) false)) files_0 files files_next so_far.no_fault
+                    (subst (λ (b : Bool). FileCause b files files_next) (sym (end_unread answer)) is.cause);
+                kept = runs_of_both;
+              }
+
+      -- a command that was begun, and not answered
+      pub cut_short : BegunGoesOn → AlwaysRuns item_line lists → IsPartition setting.machine.stated →
+          (rest : List Command) (did : Did) (front : List ℕ) (files_next : ℕ) (sink_next : D) →
+          All (λ other. InRange setting other) (commands ++ one ∷ rest) →
+          Starts stands lists held_now setting k one files files_next state sink sink_next did front →
+          PlaysFront stands lists held_where setting (commands ++ one ∷ rest) files_0 files_next sink_0 sink_next
+      cut_short law always partition rest did front files_next sink_next within starts =
+          let goes : GoesOn lists setting (commands ++ one ∷ rest) so_far.dids did holds =
+          law lists setting commands rest one so_far.dids state did holds always partition within so_far.steps
+          starts.may.step in
+          record {
+            dids = so_far.dids ++ did ∷ goes.more;
+            may = record {
+              steps = goes.steps;
+              is_held = reads_with did goes.more starts.may.is_held (λ told. goes.held);
+            };
+            front = texts_from 1 commands so_far.dids ++ front;
+            is_front = (
+              starts.is_front.0 ++ texts_from (k + 1) rest goes.more,
+              texts_with rest did goes.more
+                  ∙ ap (λ (text : List ℕ).
+                  texts_from 1 commands so_far.dids ++ (text ++ texts_from (k + 1) rest goes.more)) starts.is_front.1
+                  ∙ regroup (texts_from 1 commands so_far.dids) front starts.is_front.0
+                  (texts_from (k + 1) rest goes.more),
+            );
+            grew =
+                grew_then stands sink_0 sink sink_next (texts_from 1 commands so_far.dids) front so_far.grew
+                starts.grew;
+            by_fault =
+                λ unread. cause_since true files_0 files files_next so_far.no_fault
+                (starts.by_fault (sym goes.unread ∙ unread));
+          }
+
+  -- no command was begun
+  pub nothing_played : SessionsExist → OpeningStands → AlwaysRuns item_line lists → IsPartition setting.machine.stated →
+      (commands : List Command) → All (λ other. InRange setting other) commands →
+      PlaysFront stands lists held_where setting commands files_0 files_0 sink_0 sink_0
+  nothing_played exist opens always partition commands within =
+      let some = exist lists setting (opening_state setting) commands holds always partition (opens setting) within in
+      record {
+        dids = some.dids;
+        may = record { steps = some.steps; is_held = λ told. some.held };
+        front = [];
+        is_front = (texts_from 1 commands some.dids, refl);
+        grew = record { each = λ taken before. subst (stands sink_0) (sym (append-nil taken)) before };
+        by_fault = λ unread. absurd (not_both (is_unread (session_answer some.dids)) unread some.all_read);
+      }
