@@ -2,3 +2,4 @@ pub mod Ascending
 pub mod Touched
 pub mod Leading
 pub mod Ranges
+pub mod Patient
