@@ -1,0 +1,10 @@
+pub mod Sitting
+pub mod Reading
+pub mod Turning
+pub mod Giving
+pub mod Joining
+pub mod Beginning
+pub mod Ending
+pub mod Opened
+pub mod Answered
+pub mod Performing

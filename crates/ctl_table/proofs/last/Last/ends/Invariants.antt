@@ -1,0 +1,9 @@
+use Rattle.std.proofs.Common.{◌≡◌, map}
+use Rattle.std.specs.List.{range_with_len}
+use Rattle.ctl_core.specs.Moments.{end_in}
+use Rattle.ctl_table.specs.Lasts.{plan_at, words_at}
+use Rattle.ctl_table.proofs.last.Last.ends.Given as goal
+
+-- those of the threads so far
+abbrev pub invariant-loop-thread : goal.invariant-loop-thread
+invariant-loop-thread l = l.ends.items ≡ map (end_in (plan_at l.self) (words_at l.self)) (range_with_len 0 l.thread)

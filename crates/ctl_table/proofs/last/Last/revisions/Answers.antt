@@ -1,0 +1,18 @@
+use Rattle.std.proofs.Common.{ℕ, ◌++◌, [], ◌∷◌, length, ap, sym, ◌∙◌, arith}
+use Rattle.std.proofs.lemmas.List.FromFn.{length-map-range_with_len, map-range_with_len_more}
+use Rattle.rendezvous_steps.specs.declared.operations.Word.TheVariants.{Rev}
+use Rattle.ctl_table.specs.Lasts.{words_at}
+use Rattle.ctl_table.proofs.last.Last.revisions.Goals as goal
+
+pub push-requires : goal.push-requires
+push-requires c =
+    let came : ℕ → ℕ = λ g. words_at c.args.self.now (Rev g) in
+    let so_far = ap length c.loop-group.invariant ∙ length-map-range_with_len came 0 c.loop-group.group in
+    (omega arith, omega (arith, so_far, c.groups-group-end.ensures.few, c.loop-group-test.true))
+
+pub loop-group-preserved : goal.loop-group-preserved
+loop-group-preserved c =
+    let came : ℕ → ℕ = λ g. words_at c.args.self.now (Rev g) in
+    let n = c.loop-group.group in
+    c.push.ensures.items ∙ ap (λ xs. xs ++ c.revision.result ∷ []) c.loop-group.invariant
+    ∙ rw c.revision.ensures (sym (map-range_with_len_more came 0 n n (omega arith)))

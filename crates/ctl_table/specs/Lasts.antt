@@ -1,0 +1,24 @@
+-- The words of a bay that is closed, and what they are read into.
+use Rattle.std.specs.Prelude.{◌≡◌, ℕ, map}
+use Rattle.std.specs.List.{range_with_len}
+use Rattle.std.specs.Mem.Slots.{slots_items}
+use Rattle.rendezvous_steps.specs.declared.operations.Word.{Word}
+use Rattle.rendezvous_steps.specs.declared.operations.Word.TheVariants.{Decide, Rev}
+use Rattle.rendezvous_steps.specs.Plan.{Plan, threads_from}
+use Rattle.ctl_words.specs.Plans.{plan_of}
+use Rattle.ctl_core.specs.declared.outcomes.Outcome.{Outcome}
+use Rattle.ctl_core.specs.Moments.{end_in}
+use Rattle.ctl_table.specs.declared.last.Last.{Last}
+use Rattle.ctl_table.specs.Words.{words_of}
+
+abbrev pub plan_at : Last → Plan
+plan_at last = plan_of last.plan.now
+
+abbrev pub words_at : Last → Word → ℕ
+words_at last = words_of (plan_of last.plan.now) (slots_items last.words.now.words)
+
+-- the outcome is what these words hold of the decision, of each thread and of each group
+pub record OutcomeReads (plan : Plan) (words : Word → ℕ) (outcome : Outcome) : Type 0 where
+  pub decide : outcome.decide ≡ words Decide
+  pub ends : outcome.ends.items ≡ map (end_in plan words) (threads_from plan 0)
+  pub revs : outcome.revs.items ≡ map (λ g. words (Rev g)) (range_with_len 0 plan.groups)

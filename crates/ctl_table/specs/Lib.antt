@@ -1,0 +1,10 @@
+pub mod Words
+pub mod Standings
+pub mod Holds
+pub mod Openings
+pub mod Posts
+pub mod Seen
+pub mod Ended
+pub mod Closes
+pub mod Lasts
+pub mod Laws

@@ -1,0 +1,27 @@
+-- What a bay begins with.
+use Rattle.std.specs.Prelude.{◌≡◌, ℕ, ◌+◌, ◌-◌, ◌*◌, ◌==◌, ◌&&◌, if◌then◌else◌, nat_le, nat_lt}
+use Rattle.rendezvous_steps.specs.Plan.{Plan, online_count}
+use Rattle.ctl_words.specs.declared.plans.Plan.{Plan as Tables}
+
+-- where the revisions of the groups begin
+abbrev pub first_revision : Plan → ℕ
+first_revision plan = 3 + 3 * plan.threads
+
+-- the word at a place: how many threads are to arrive, the groups' revisions, and else 0
+abbrev pub opening_at : Plan → ℕ → ℕ
+opening_at plan k =
+    if k == 0 then online_count plan else
+    if nat_le (first_revision plan) k && nat_lt k (first_revision plan + plan.groups)
+    then plan.rev0 (k - first_revision plan)
+    else 0
+
+-- q has the tables of p
+pub record IsCopy (p q : Tables) : Type 0 where
+  pub threads : q.threads ≡ p.threads
+  pub kind : q.kind.items ≡ p.kind.items
+  pub group : q.group.items ≡ p.group.items
+  pub primary : q.primary.items ≡ p.primary.items
+  pub offer : q.offer.items ≡ p.offer.items
+  pub refuse : q.refuse.items ≡ p.refuse.items
+  pub rev0 : q.rev0.items ≡ p.rev0.items
+  pub patience : q.patience ≡ p.patience
