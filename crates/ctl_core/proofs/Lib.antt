@@ -1,3 +1,4 @@
+pub mod Decimals
 pub mod Counting
 pub mod Changes
 pub mod Small

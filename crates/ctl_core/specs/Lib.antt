@@ -1,4 +1,5 @@
 pub mod Outcomes
+pub mod Lines
 pub mod Runs
 pub mod Moments
 pub mod Cores

@@ -60,6 +60,7 @@ impl<'a> Core<'a> {
     /// Does one event, as the definition says. It takes no memory. From a moment that meets the rule between steps, as
     /// each has that events lead to, the item is a step of the model between the states that are shown, and the next is
     /// safe.
+    #[inline(always)]
     pub fn event(&mut self, event: Event) -> Item
         requires { thread_of event < (plan_in self.old).threads }
         ensures thread { result.thread ≡ thread_of event }
@@ -79,6 +80,7 @@ impl<'a> Core<'a> {
     }
 
     /// Whether no thread is unfinished.
+    #[inline(always)]
     pub fn is_over(&self) -> bool
         ensures { result ≡ is_over (plan_in self.now) (moment_in self.now) }
     {
@@ -122,6 +124,7 @@ impl<'a> Core<'a> {
 }
 
 /// Whether an item is none of Poll, Idle, Latched and Ordinary.
+#[inline(always)]
 fn is_counted(what: What) -> bool
     ensures { result ≡ is_counted what }
 {

@@ -68,6 +68,7 @@ impl Moment {
     }
 
     /// How many threads are unfinished.
+    #[inline(always)]
     pub fn unfinished(&self) -> u16
         ensures { result ≡ self.now.unfinished }
     {
@@ -162,6 +163,7 @@ impl Moment {
     }
 
     /// One event, by the definition `happens`.
+    #[inline(always)]
     #[tactic(auto, unfolding(rendezvous_steps::specs::Events::happens))]
     pub fn event(&mut self, plan: &Plan, event: Event) -> Item
         requires sound { IsSound plan.now }
@@ -172,16 +174,28 @@ impl Moment {
         ensures state { running_of self.new ≡ (happens (plan_of plan.now) event (running_of self.old)).0 }
         ensures fits { Fits (plan_of plan.now) self.new }
     {
-        let (thread, what) = match event {
-            Event::Step(thread) => (thread, self.step(plan, thread, How::Step)),
-            Event::Timeout(thread) => (thread, self.step(plan, thread, How::Timeout)),
-            Event::Nmi(thread) => (thread, self.nmi(plan, thread)),
-            Event::Run(thread) => (thread, self.run(plan, thread)),
-        };
-        Item { thread, what }
+        match event {
+            Event::Step(thread) => Item {
+                thread,
+                what: self.step(plan, thread, How::Step),
+            },
+            Event::Timeout(thread) => Item {
+                thread,
+                what: self.step(plan, thread, How::Timeout),
+            },
+            Event::Nmi(thread) => Item {
+                thread,
+                what: self.nmi(plan, thread),
+            },
+            Event::Run(thread) => Item {
+                thread,
+                what: self.run(plan, thread),
+            },
+        }
     }
 
     /// The thread does its operation. Where it has none, a latched NMI comes through once it has left.
+    #[inline(always)]
     fn step(&mut self, plan: &Plan, thread: u16, how: How) -> What
         requires sound { IsSound plan.now }
         requires fits { Fits (plan_of plan.now) self.old }
@@ -196,6 +210,7 @@ impl Moment {
         }
     }
 
+    #[inline(always)]
     fn perform(&mut self, plan: &Plan, thread: u16, how: How, op: Op) -> What
         requires next { operation (plan_of plan.now) thread ((running_of self.old).locals thread) how ≡ Some op }
         requires sound { IsSound plan.now }
@@ -342,6 +357,7 @@ impl Moment {
     }
 
     /// Does the operation.
+    #[inline(always)]
     fn apply(&mut self, plan: &Plan, op: Op) -> u64
         requires sound { IsSound plan.now }
         requires there { IsTrue (has_word self.old.words (touched op)) }
@@ -360,6 +376,7 @@ impl Moment {
     }
 
     /// What a word holds.
+    #[inline(always)]
     fn load(&self, word: Word) -> u64
         ensures { result ≡ word_of self.now.words word }
     {
@@ -405,6 +422,7 @@ impl Moment {
         found
     }
 
+    #[inline(always)]
     fn set_local(&mut self, thread: u16, local: Local)
         requires { thread < length self.old.locals }
         ensures { self.new ≡ record self.old { locals = slice_set self.old.locals thread local } }
@@ -419,6 +437,7 @@ impl Moment {
         self.latched[usize::from(thread)] = latched;
     }
 
+    #[inline(always)]
     fn local(&self, thread: u16) -> Local
         ensures { result ≡ (running_of self.now).locals thread }
     {

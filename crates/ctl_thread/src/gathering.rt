@@ -14,6 +14,7 @@ use rendezvous_steps::{How, Kind, Local, Phase, What};
 impl Turn<'_> {
     ghost use Rattle.ctl_thread.specs.Turns.{row_of};
 
+    #[inline(always)]
     pub fn outside(&self) -> (Local, What)
         ensures { result ≡ row_of self.now Outside }
     {
@@ -23,6 +24,7 @@ impl Turn<'_> {
         }
     }
 
+    #[inline(always)]
     pub fn kicking(&self) -> (Local, What)
         ensures { result ≡ row_of self.now Kicking }
     {
@@ -30,6 +32,7 @@ impl Turn<'_> {
         (kick_at(self.local, next), What::Kick(self.local.at))
     }
 
+    #[inline(always)]
     pub fn offline_wait(&self) -> (Local, What)
         requires { IsSound self.now.plan.now }
         ensures { result ≡ row_of self.now OfflineWait }
@@ -51,6 +54,7 @@ impl Turn<'_> {
         }
     }
 
+    #[inline(always)]
     pub fn arriving(&self) -> (Local, What)
         ensures { result ≡ row_of self.now Arriving }
     {
@@ -61,6 +65,7 @@ impl Turn<'_> {
         }
     }
 
+    #[inline(always)]
     pub fn deciding(&self) -> (Local, What)
         ensures { result ≡ row_of self.now Deciding }
     {
@@ -71,6 +76,7 @@ impl Turn<'_> {
         }
     }
 
+    #[inline(always)]
     pub fn waiting(&self) -> (Local, What)
         ensures { result ≡ row_of self.now Waiting }
     {

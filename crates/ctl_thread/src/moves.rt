@@ -9,6 +9,7 @@ use ctl_words::Plan;
 use rendezvous_steps::{Local, Phase, ThreadResult};
 
 /// On to a phase.
+#[inline(always)]
 pub fn to(local: &Local, phase: Phase) -> Local
     ensures { result ≡ table.to local.now phase }
 {
@@ -16,6 +17,7 @@ pub fn to(local: &Local, phase: Phase) -> Local
 }
 
 /// On to a phase in which polls are counted.
+#[inline(always)]
 pub fn wait_in(local: &Local, phase: Phase) -> Local
     ensures { result ≡ table.wait_in local.now phase }
 {
@@ -27,6 +29,7 @@ pub fn wait_in(local: &Local, phase: Phase) -> Local
 }
 
 /// On to a phase, with a result for the leave.
+#[inline(always)]
 pub fn with_result(local: &Local, mine: ThreadResult, phase: Phase) -> Local
     ensures { result ≡ table.with_result local.now (table.number_of mine) phase }
 {
@@ -38,6 +41,7 @@ pub fn with_result(local: &Local, mine: ThreadResult, phase: Phase) -> Local
 }
 
 /// One poll more, up to the greatest count.
+#[inline(always)]
 pub fn polled(local: &Local) -> Local
     ensures { result ≡ table.polled local.now }
 {
@@ -48,6 +52,7 @@ pub fn polled(local: &Local) -> Local
 }
 
 /// A loop's phase at the thread that was found, or else the phase after the loop.
+#[inline(always)]
 pub fn loop_at(local: &Local, phase: Phase, found: Option<u16>, after: Phase) -> Local
     ensures { result ≡ table.loop_at local.now phase found after }
 {
@@ -62,6 +67,7 @@ pub fn loop_at(local: &Local, phase: Phase, found: Option<u16>, after: Phase) ->
 }
 
 /// The kick of this thread; without one thread 0 waits for the kicked.
+#[inline(always)]
 pub fn kick_at(local: &Local, found: Option<u16>) -> Local
     ensures { result ≡ table.kick_at local.now found }
 {
@@ -72,6 +78,7 @@ pub fn kick_at(local: &Local, found: Option<u16>) -> Local
 }
 
 /// The go path: a primary reads its group's revision, any other thread waits for its primary.
+#[inline(always)]
 pub fn go_path(plan: &Plan, thread: u16, local: &Local) -> Local
     ensures { result ≡ table.go_path (plan_of plan.now) thread local.now }
 {
@@ -83,6 +90,7 @@ pub fn go_path(plan: &Plan, thread: u16, local: &Local) -> Local
 }
 
 /// The drop path: thread 0 takes back the kicks, any other thread leaves.
+#[inline(always)]
 pub fn drop_path(plan: &Plan, thread: u16, local: &Local) -> Local
     ensures { result ≡ table.drop_path (plan_of plan.now) thread local.now }
 {
@@ -95,6 +103,7 @@ pub fn drop_path(plan: &Plan, thread: u16, local: &Local) -> Local
 }
 
 /// The kick of this thread is taken back; without one the thread leaves.
+#[inline(always)]
 pub fn withdraw_at(local: &Local, found: Option<u16>) -> Local
     ensures { result ≡ table.withdraw_at local.now found }
 {
@@ -102,6 +111,7 @@ pub fn withdraw_at(local: &Local, found: Option<u16>) -> Local
 }
 
 /// This sibling is freed; without one the thread leaves.
+#[inline(always)]
 pub fn free_at(local: &Local, found: Option<u16>) -> Local
     ensures { result ≡ table.free_at local.now found }
 {

@@ -29,6 +29,7 @@ pub fn opening(plan: &Plan, thread: u16) -> Local
 }
 
 /// The thread's next operation. It has none exactly in the phases Left, Halted, Withdrawn and Nothing.
+#[inline(always)]
 #[tactic(auto, unfolding(rendezvous_steps::specs::StepTable::operation))]
 pub fn next(plan: &Plan, thread: u16, local: &Local, how: How) -> Option<Op>
     requires sound { IsSound plan.now }
@@ -69,6 +70,7 @@ pub fn next(plan: &Plan, thread: u16, local: &Local, how: How) -> Option<Op>
 }
 
 /// The result that a thread is about to report or to leave with.
+#[inline(always)]
 pub fn told(local: &Local) -> ThreadResult
     ensures { result ≡ result_of local.now.mine }
 {
@@ -94,6 +96,7 @@ pub fn offer_or_rev0(plan: &Plan, group: u16) -> u32
 }
 
 /// What a primary tells those that it frees: 1 to apply, 2 that it is done.
+#[inline(always)]
 fn release_of(local: &Local) -> u64
     ensures { result ≡ release_of local.now }
 {

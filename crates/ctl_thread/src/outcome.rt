@@ -9,6 +9,7 @@ use ctl_words::Plan;
 use rendezvous_steps::{How, Local, Phase, What};
 
 /// The thread's next state and the item, where its operation found `found` in its word.
+#[inline(always)]
 #[tactic(auto, unfolding(rendezvous_steps::specs::StepTable::after))]
 pub fn after(plan: &Plan, thread: u16, local: &Local, how: How, found: u64) -> (Local, What)
     requires sound { IsSound plan.now }

@@ -17,6 +17,7 @@ use rendezvous_steps::{How, Local, Phase, ThreadResult, What};
 impl Turn<'_> {
     ghost use Rattle.ctl_thread.specs.Turns.{row_of};
 
+    #[inline(always)]
     pub fn reading(&self) -> (Local, What)
         ensures { result ≡ row_of self.now Reading }
     {
@@ -33,6 +34,7 @@ impl Turn<'_> {
         }
     }
 
+    #[inline(always)]
     pub fn beginning(&self) -> (Local, What)
         ensures { result ≡ row_of self.now Beginning }
     {
@@ -42,6 +44,7 @@ impl Turn<'_> {
         )
     }
 
+    #[inline(always)]
     pub fn writing(&self) -> (Local, What)
         ensures { result ≡ row_of self.now Writing }
     {
@@ -52,6 +55,7 @@ impl Turn<'_> {
         )
     }
 
+    #[inline(always)]
     pub fn checking(&self) -> (Local, What)
         ensures { result ≡ row_of self.now Checking }
     {
@@ -63,6 +67,7 @@ impl Turn<'_> {
         (with_result(self.local, mine, Phase::Reporting), What::Inner)
     }
 
+    #[inline(always)]
     pub fn reporting(&self) -> (Local, What)
         ensures { result ≡ row_of self.now Reporting }
     {
@@ -72,6 +77,7 @@ impl Turn<'_> {
         (next, What::Report(self.plan.group_of(self.thread), mine))
     }
 
+    #[inline(always)]
     pub fn freeing(&self) -> (Local, What)
         ensures { result ≡ row_of self.now Freeing }
     {
@@ -87,6 +93,7 @@ impl Turn<'_> {
         (next, item)
     }
 
+    #[inline(always)]
     pub fn sibling_wait(&self) -> (Local, What)
         ensures { result ≡ row_of self.now SiblingWait }
     {
@@ -98,6 +105,7 @@ impl Turn<'_> {
         }
     }
 
+    #[inline(always)]
     pub fn sibling_check(&self) -> (Local, What)
         ensures { result ≡ row_of self.now SiblingCheck }
     {
@@ -109,6 +117,7 @@ impl Turn<'_> {
         (with_result(self.local, mine, Phase::Leaving), What::Inner)
     }
 
+    #[inline(always)]
     pub fn sibling_copy(&self) -> (Local, What)
         ensures { result ≡ row_of self.now SiblingCopy }
     {
@@ -122,6 +131,7 @@ impl Turn<'_> {
         )
     }
 
+    #[inline(always)]
     pub fn withdrawing(&self) -> (Local, What)
         ensures { result ≡ row_of self.now Withdrawing }
     {
@@ -133,6 +143,7 @@ impl Turn<'_> {
         }
     }
 
+    #[inline(always)]
     pub fn releasing(&self) -> (Local, What)
         ensures { result ≡ row_of self.now Releasing }
     {
@@ -148,12 +159,14 @@ impl Turn<'_> {
         (next, item)
     }
 
+    #[inline(always)]
     pub fn offline_count(&self) -> (Local, What)
         ensures { result ≡ row_of self.now OfflineCount }
     {
         (wait_in(self.local, Phase::OfflineHold), What::Arrive)
     }
 
+    #[inline(always)]
     pub fn offline_hold(&self) -> (Local, What)
         ensures { result ≡ row_of self.now OfflineHold }
     {
@@ -164,6 +177,7 @@ impl Turn<'_> {
         }
     }
 
+    #[inline(always)]
     pub fn leaving(&self) -> (Local, What)
         ensures { result ≡ row_of self.now Leaving }
     {
@@ -176,6 +190,7 @@ impl Turn<'_> {
 }
 
 /// The offer is there and greater than the revision.
+#[inline(always)]
 fn exceeds(offer: Option<u32>, revision: u64) -> bool
     ensures { result ≡ exceeds offer revision }
 {
@@ -186,6 +201,7 @@ fn exceeds(offer: Option<u32>, revision: u64) -> bool
 }
 
 /// The revision that was found is the offer of the thread's group.
+#[inline(always)]
 fn holds_offer(plan: &Plan, thread: u16, found: u64) -> bool
     ensures { result ≡ (found == offer_or_rev0 (plan_of plan.now) ((plan_of plan.now).group thread)) }
 {

@@ -71,6 +71,7 @@ impl PlainWords {
     }
 
     /// What a word holds; a word that the plan has not holds 0.
+    #[inline(always)]
     pub fn get(&self, word: Word) -> u64
         ensures { result ≡ word_of self.now word }
     {
@@ -86,6 +87,7 @@ impl PlainWords {
         }
     }
 
+    #[inline(always)]
     fn set(&mut self, word: Word, value: u64)
         requires { IsTrue (has_word self.old word) }
         ensures { self.new ≡ with_word self.old word value }
@@ -103,6 +105,7 @@ impl PlainWords {
     }
 }
 
+#[inline(always)]
 fn entry(words: &Vec<u64>, at: u16) -> u64
     ensures { result ≡ slice_index words.now.items at }
 {
@@ -131,6 +134,7 @@ impl Words for PlainWords {
 
     ghost held = { word_of };
 
+    #[inline(always)]
     fn apply(&mut self, op: Op) -> u64 {
         let word = op.word();
         let found = self.get(word);
