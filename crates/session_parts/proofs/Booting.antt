@@ -1,12 +1,11 @@
 -- A boot in the words of a session.
-use Rattle.std.proofs.Common.{◌≡◌, ℕ, ◌<◌, Bool, true, List, Option, None, Some, Result, Ok, Err, MatchResult, refl, sym, ap, ◌∙◌, subst, inl, inr}
+use Rattle.std.proofs.Common.{◌≡◌, ℕ, ◌<◌, true, List, Option, None, Some, Result, Ok, Err, MatchResult, refl, ap, ◌∙◌, subst, inl, inr}
 use Rattle.std.proofs.lemmas.Bool.{cases_lt}
 use Rattle.std.proofs.lemmas.List.{get_or_past}
 use Rattle.machine_steps.specs.declared.bring_ups.BringUp.{BringUp}
 use Rattle.machine_steps.specs.Hardware.{Setting, is_off}
 use Rattle.machine_steps.specs.Puts.{Puts}
-use Rattle.hw_machine.specs.Machine.{setting_of as machine_setting, hardware_of}
-use Rattle.patch_pool.specs.Pool.{patches_of}
+use Rattle.hw_machine.specs.Machine.{hardware_of}
 use Rattle.early_load.specs.declared.answers.BootAnswer.{BootAnswer}
 use Rattle.early_load.specs.declared.answers.BootAnswer.TheVariants as boot
 use Rattle.early_load.specs.Caches.{groups_of, cached_of, nothing_cached, first_block}

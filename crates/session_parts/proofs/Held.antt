@@ -2,7 +2,6 @@
 use Rattle.std.proofs.Common.{◌≡◌, ℕ, ◌<◌, List, Option, None, Some, refl, ap, sym, ◌∙◌, subst}
 use Rattle.region_steps.specs.Region.{Patches}
 use Rattle.machine_steps.specs.Hardware.{Setting}
-use Rattle.hw_machine.specs.Machine.{setting_of as machine_setting}
 use Rattle.patch_pool.specs.Pool.{patches_of}
 use Rattle.early_load.specs.Caches.{groups_of, cached_of, AreHeld, IsHeld}
 use Rattle.session_laws.specs.Standing.{Standing, PatchesStand}

@@ -1,2 +1,5 @@
 pub mod Parts
 pub mod Boots
+pub mod Presence
+pub mod Loads
+pub mod Plans

@@ -5,7 +5,11 @@
 #![tactic(auto)]
 
 mod boot;
+mod loads;
+mod offers;
 mod parts;
+mod plans;
+mod presence;
 mod rows;
 
 pub use parts::Parts;

@@ -1,4 +1,3 @@
-use Rattle.session_steps.specs.State.{State}
 use Rattle.patch_pool.specs.Pool.{patches_of}
 use Rattle.early_load.specs.Caches.{cached_of}
 use Rattle.hw_machine.specs.Machine.{setting_of as machine_setting, hardware_of}
