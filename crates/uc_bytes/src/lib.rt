@@ -9,4 +9,7 @@ mod words;
 
 pub use causes::{FileAnswer, FileCause, FileFault, NoMemory, Vendor};
 pub use texts::Text;
-pub use words::{half_at, word_at, word_sum};
+pub use words::{half_at, put_word, word_at, word_sum};
+
+#[cfg(test)]
+mod tests;

@@ -1,4 +1,5 @@
-ghost use Rattle.std.specs.Prelude.{◌≡◌, ◌+◌, ◌%◌, ◌≤◌, length};
+ghost use Rattle.std.specs.Prelude.{◌≡◌, ◌+◌, ◌%◌, ◌≤◌, ◌++◌, length, take, drop};
+ghost use Rattle.byteorder.specs.Endian.{little_bytes};
 ghost use Rattle.uc_bytes.specs.Words.{word, half, word_sum_of};
 
 use byteorder::{ByteOrder, LittleEndian};
@@ -19,6 +20,15 @@ pub fn half_at(bytes: &[u8], at: usize) -> u16
     ensures { result ≡ half bytes.now at }
 {
     LittleEndian::read_u16(&bytes[at..])
+}
+
+/// Puts a number into the four bytes from `at` on, the lowest byte first. All other bytes stay.
+pub fn put_word(bytes: &mut [u8], at: usize, value: u32)
+    requires { at + 4 ≤ length bytes.old }
+    ensures bytes { bytes.new ≡ take at bytes.old ++ little_bytes 4 value ++ drop (at + 4) bytes.old }
+    ensures word { word bytes.new at ≡ value }
+{
+    LittleEndian::write_u32(&mut bytes[at..], value);
 }
 
 /// The sum of the words of `bytes`, modulo 2^32.
