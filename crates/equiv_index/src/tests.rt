@@ -1,6 +1,7 @@
 use super::*;
 use amd_equiv::read_equiv;
 use std::test::Fail;
+use uc_bytes::put_word;
 
 /// A container's head with a table of five rows, two of which have one signature and three of which have one id.
 fn head_and_rows(table: &mut [u8; 92]) {
@@ -12,9 +13,9 @@ fn head_and_rows(table: &mut [u8; 92]) {
         (0, 0),
     ];
     table[..4].copy_from_slice(b"DMA\0");
-    table[8] = 80;
+    put_word(table, 8, 80);
     for (i, (sig, id)) in rows.iter().enumerate() {
-        table[12 + 16 * i..16 + 16 * i].copy_from_slice(&sig.to_le_bytes());
+        put_word(table, 12 + 16 * i, *sig);
         table[24 + 16 * i..26 + 16 * i].copy_from_slice(&id.to_le_bytes());
     }
 }
