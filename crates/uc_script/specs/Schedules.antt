@@ -1,12 +1,13 @@
 -- The schedules of loads, read word by word.
-use Rattle.std.specs.Prelude.{◌≡◌, ℕ, ◌-◌, ◌^◌, Bool, true, false, not, List, ◌++◌, drop, map, min, nat_lt, Option, Some, None, Result, Ok, Err, if◌then◌else◌}
+use Rattle.std.specs.Prelude.{◌≡◌, ℕ, ◌-◌, ◌^◌, Bool, true, false, not, List, [], ◌∷◌, ◌++◌, drop, map, min, nat_lt, slice_index, Option, Some, None, is_some, unwrap_or, Result, Ok, Err, if◌then◌else◌}
 use Rattle.std.specs.List.{list_all}
 use Rattle.rendezvous_steps.specs.declared.ends.Beat.{Beat}
 use Rattle.script_text.specs.declared.fault.ScriptCause.{ScriptCause}
 use Rattle.script_text.specs.declared.fault.ScriptCause.TheVariants.{Word, Number, Range, TooMany}
 use Rattle.script_text.specs.declared.forms.Limits.{Limits}
-use Rattle.script_text.specs.Forms.{is_beat}
-use Rattle.script_text.specs.Stands.{beat_of, beats_of}
+use Rattle.uc_text.specs.Numbers.{number_of}
+use Rattle.script_text.specs.Forms.{is_beat, kind_of}
+use Rattle.script_text.specs.Stands.{beat_with_some, beats_of}
 use Rattle.script_text.specs.Checks.{spells}
 use Rattle.script_text.specs.Within.{fits_beat, events_of}
 use Rattle.uc_script.specs.declared.answer.LineAnswer.{LineAnswer}
@@ -16,13 +17,25 @@ use Rattle.uc_script.specs.declared.answer.LineAnswer.TheVariants.{Cause, NoMemo
 abbrev pub Counted : Limits → List Beat → ℕ → Type 0
 Counted limits beats events = events ≡ min (events_of limits beats) (2 ^ 64 - 1)
 
+-- the beat of a word's first byte and of the number that the rest spells, where it does; or the first check that fails
+abbrev pub IsBeatOf : Limits → ℕ → Option ℕ → Result Beat ScriptCause → Type 0
+IsBeatOf limits first number (Ok beat) =
+    (is_some (kind_of first) ≡ true) × (is_some number ≡ true) × (fits_beat limits (beat_with_some (kind_of first) (unwrap_or number 0)) ≡ true)
+    × (beat ≡ beat_with_some (kind_of first) (unwrap_or number 0))
+IsBeatOf limits first number (Err Word) = is_some (kind_of first) ≡ false
+IsBeatOf limits first number (Err Number) = (is_some (kind_of first) ≡ true) × (is_some number ≡ false)
+IsBeatOf limits first number (Err Range) =
+    (is_some (kind_of first) ≡ true) × (is_some number ≡ true) × (fits_beat limits (beat_with_some (kind_of first) (unwrap_or number 0)) ≡ false)
+IsBeatOf limits first number (Err cause) = ⊥
+
 -- the beat of a word, or the first check that fails at the word alone
 abbrev pub IsBeatRead : Limits → List ℕ → Result Beat ScriptCause → Type 0
-IsBeatRead limits word (Ok beat) = (is_beat word ≡ true) × (spells (drop 1 word) ≡ true) × (fits_beat limits (beat_of word) ≡ true) × (beat ≡ beat_of word)
-IsBeatRead limits word (Err Word) = is_beat word ≡ false
-IsBeatRead limits word (Err Number) = (is_beat word ≡ true) × (spells (drop 1 word) ≡ false)
-IsBeatRead limits word (Err Range) = (is_beat word ≡ true) × (spells (drop 1 word) ≡ true) × (fits_beat limits (beat_of word) ≡ false)
-IsBeatRead limits word (Err cause) = ⊥
+IsBeatRead limits word read = IsBeatOf limits (slice_index word 0) (number_of (drop 1 word)) read
+
+-- the same of the first of some words, which the others follow; none where there is no word
+abbrev pub IsNextBeat : Limits → List (List ℕ) → List (List ℕ) → Option (Result Beat ScriptCause) → Type 0
+IsNextBeat limits words left None = words ≡ []
+IsNextBeat limits words left (Some read) = (word : List ℕ) × (words ≡ word ∷ left) × IsBeatRead limits word read
 
 -- the first check that fails at the words of a schedule's line, after these beats
 abbrev pub schedule_fault : Limits → List Beat → List (List ℕ) → Option ScriptCause

@@ -3,7 +3,7 @@ ghost use Rattle.std.specs.Prelude.{◌≡◌, drop, slice_index};
 ghost use Rattle.uc_text.specs.Lines.{words_of};
 ghost use Rattle.script_text.specs.Forms.{is_beat};
 ghost use Rattle.script_text.specs.Within.{fits_beat, events_of_beat, thread_of};
-ghost use Rattle.uc_script.specs.Schedules.{IsBeatRead, IsScheduled, Counted};
+ghost use Rattle.uc_script.specs.Schedules.{IsBeatOf, IsNextBeat, IsScheduled, Counted};
 
 use crate::answer::LineAnswer;
 use rendezvous_steps::{Beat, Event};
@@ -23,10 +23,11 @@ pub fn add_beats(
     requires { Counted limits beats.old events.old }
     ensures { IsScheduled limits (words_of line.now) beats.old beats.new events.new result }
 {
+    let mut words = Words::new(line);
     let mut spelled = true;
     let mut in_range = true;
-    for word in Words::new(line) {
-        match read_beat(limits, word) {
+    while let Some(read) = next_beat(limits, &mut words) {
+        match read {
             Ok(beat) => {
                 beats.push(beat)?;
                 *events = events.saturating_add(events_of(limits, beat));
@@ -47,14 +48,26 @@ pub fn add_beats(
     }
 }
 
-/// The beat that a word states, or the first check that fails at it alone.
-fn read_beat(limits: Limits, word: &[u8]) -> Result<Beat, ScriptCause>
-    ensures { IsBeatRead limits word.now result }
+/// The beat that the next word states, or the first check that fails at it alone; none where no word is left. A short
+/// number is read in the step that finds the word.
+fn next_beat(limits: Limits, words: &mut Words) -> Option<Result<Beat, ScriptCause>>
+    ensures { IsNextBeat limits words.old words.new result }
 {
-    let Some(kind) = BeatKind::of(first_byte(word)) else {
+    if let Some(word) = words.next_marked() {
+        return Some(read_beat(limits, word.mark, Some(u64::from(word.number))));
+    }
+    let word = words.next()?;
+    Some(read_beat(limits, first_byte(word), number(after_first(word))))
+}
+
+/// The beat of a word by its first byte and the number that the rest spells, where it does; or the first check that fails.
+fn read_beat(limits: Limits, first: u8, number: Option<u64>) -> Result<Beat, ScriptCause>
+    ensures { IsBeatOf limits first number result }
+{
+    let Some(kind) = BeatKind::of(first) else {
         return Err(ScriptCause::Word);
     };
-    let Some(value) = number(after_first(word)) else {
+    let Some(value) = number else {
         return Err(ScriptCause::Number);
     };
     if value >= 1 << 16 {

@@ -1,2 +1,3 @@
+mod MarkedWords
 mod Pieces
 mod Places

@@ -1,12 +1,13 @@
 -- The first line of a text and the first word of a line, and what is left.
-use Rattle.std.proofs.Common.{◌≡◌, ℕ, ◌+◌, ◌<◌, ◌≤◌, Bool, true, false, not, List, [], ◌∷◌, length, take, drop, map, subst, filter, refl, sym, ap, ◌∙◌, inl, inr, one-add, arith}
+use Rattle.std.proofs.Common.{◌≡◌, ℕ, ◌+◌, ◌<◌, ◌≤◌, Bool, true, false, not, List, [], ◌∷◌, length, take, drop, map, subst, filter, refl, sym, ap, ◌∙◌, inl, inr, one-add, Option, None, Some, arith}
 use Rattle.std.specs.Prelude.{unwrap_or}
 use Rattle.std.specs.List.{enumerate_from, position, position_or_len, before_first, after_first, slice_split}
 use Rattle.std.specs.Str.Lines.{strip_carriage_return}
-use Rattle.std.proofs.lemmas.Bool.{cases_lt, cases_Bool, lt-ltb, le-ltb}
+use Rattle.std.proofs.lemmas.Bool.{cases_lt, cases_Bool, lt-ltb, le-ltb, false_from_ne_true}
 use Rattle.std.proofs.lemmas.List.{take_all, drop_all, length-take, nil_from_length}
 use Rattle.std.proofs.lemmas.List.Splits.{slice_split_none, slice_split_first, length-slice_split, slice_split-cons_yes}
-use Rattle.std.proofs.lemmas.List.Sums.{fails_before_first, prefix_len-le-length}
+use Rattle.std.proofs.lemmas.List.Sums.{fails_before_first, position_or_len_is, prefix_len-le-length}
+use Rattle.memchr.specs.Find.{IsFirstByte, is_byte}
 use Rattle.uc_text.specs.Lines.{is_line_feed, is_blank, is_in_word, has_bytes, without_empty_last, lines_of, words_of}
 
 -- ---- any pieces
@@ -18,6 +19,13 @@ position_or_end p bytes =
       | inl lt ↦ rw (lt-ltb (position_or_len p bytes) (length bytes) lt) refl
       | inr le ↦ rw (le-ltb (position_or_len p bytes) (length bytes) le) (omega (arith, le, prefix_len-le-length (λ byte. not (p byte)) bytes))
     ]
+
+-- the same of what a search for one byte finds
+pub first_byte_at : (byte : ℕ) (bytes : List ℕ) (r : Option ℕ) → IsFirstByte (is_byte byte) bytes r → unwrap_or r (length bytes) ≡ position_or_len (is_byte byte) bytes
+first_byte_at byte bytes None nowhere =
+    sym (position_or_len_is (is_byte byte) bytes (length bytes) 0 (omega arith) (λ k lt. false_from_ne_true _ (nowhere k (omega arith) lt)) (λ lt. absurd (omega arith)))
+first_byte_at byte bytes (Some k) found =
+    sym (position_or_len_is (is_byte byte) bytes k 0 (omega (arith, found.0.high)) (λ j lt. false_from_ne_true _ (found.0.before j (omega arith) lt)) (λ lt. found.1))
 
 -- pieces with one more piece before them
 without_empty_last-cons : (piece : List ℕ) (pieces : List (List ℕ)) → 0 < length pieces → without_empty_last (piece ∷ pieces) ≡ piece ∷ without_empty_last pieces

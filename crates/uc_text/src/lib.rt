@@ -5,7 +5,7 @@ mod lines;
 mod numbers;
 mod print;
 
-pub use lines::{Line, Lines, Words};
+pub use lines::{Line, Lines, Marked, Words};
 pub use numbers::number;
 pub use print::{dec, hex8};
 

@@ -1,9 +1,12 @@
-ghost use Rattle.std.specs.Prelude.{◌≡◌, ◌+◌, ◌≤◌, ◌∷◌, [], length, take, drop, filter, MatchOption};
+ghost use Rattle.std.specs.Prelude.{◌≡◌, ℕ, ◌+◌, ◌<◌, ◌≤◌, List, ◌∷◌, [], Some, true, length, take, drop, filter, slice_index, IfSome, MatchOption};
 ghost use Rattle.std.specs.Iterator.{YieldsFirstBy, item_count};
 ghost use Rattle.std.specs.List.{position_or_len};
 ghost use Rattle.std.specs.Str.Lines.{strip_carriage_return};
 ghost use Rattle.uc_text.specs.Lines.{is_line_feed, is_blank, is_in_word, numbered_lines, words_of, counts};
+ghost use Rattle.uc_text.specs.Numbers.{number_of};
 
+use crate::numbers::leading_number;
+use memchr::memchr;
 use std::marker::Model;
 
 /// A line of a text: its number, from 1, and its bytes, without the LF that ends it and without one CR before that.
@@ -91,10 +94,7 @@ fn line_feed_at(bytes: &[u8]) -> usize
     ensures value { result ≡ position_or_len is_line_feed bytes.now }
     ensures within { result ≤ length bytes.now }
 {
-    bytes
-        .iter()
-        .position(|byte| *byte == b'\n')
-        .unwrap_or(bytes.len())
+    memchr(b'\n', bytes).unwrap_or(bytes.len())
 }
 
 /// The bytes before a place and those after it; all of them, and none, where the place is the end.
@@ -119,6 +119,13 @@ fn without_carriage_return(line: &[u8]) -> &[u8]
     }
 }
 
+/// A word that is one byte and the decimal digits of a number.
+#[derive(Clone, Copy, Debug)]
+pub struct Marked {
+    pub mark: u8,
+    pub number: u32,
+}
+
 /// The words of a text: the longest runs of bytes other than space and tab. A contract sees the words that are left.
 #[derive(Debug, Drop)]
 pub struct Words<'a> {
@@ -139,6 +146,23 @@ impl<'a> Words<'a> {
         ensures { result ≡ words_of text.now }
     {
         Words { rest: text }
+    }
+
+    /// The next word, where it is one byte and the decimal digits of a number, in one step over its bytes. Where it isn't,
+    /// and where the number passes 32 bits, `None`, and the word is left; also where one more blank stands before it.
+    pub fn next_marked(&mut self) -> Option<Marked>
+        ensures { MatchOption result (self.new ≡ self.old) (λ word. (digits : List ℕ) × (self.old ≡ (word.mark ∷ digits) ∷ self.new) × (number_of digits ≡ Some word.number)) }
+    {
+        let (mark, text) = match self.rest {
+            [mark, text @ ..] => (*mark, text),
+            [] => return None,
+        };
+        if is_blank(mark) {
+            return None;
+        }
+        let (number, count) = leading_number(text)?;
+        self.rest = behind_blank(text.split_at(count).1)?;
+        Some(Marked { mark, number })
     }
 }
 
@@ -178,6 +202,23 @@ fn blank_at(text: &[u8]) -> usize
     text.iter()
         .position(|byte| is_blank(*byte))
         .unwrap_or(text.len())
+}
+
+/// What stands behind the blank at the front of a text, or behind nothing where the text has no byte.
+fn behind_blank(text: &[u8]) -> Option<&[u8]>
+    ensures blank { IfSome result (λ rest. 0 < length text.now → is_blank (slice_index text.now 0) ≡ true) }
+    ensures rest { IfSome result (λ rest. rest.now ≡ drop 1 text.now) }
+{
+    match text {
+        [] => Some(text),
+        [byte, rest @ ..] => {
+            if is_blank(*byte) {
+                Some(rest)
+            } else {
+                None
+            }
+        }
+    }
 }
 
 fn is_blank(byte: u8) -> bool

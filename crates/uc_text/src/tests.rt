@@ -55,3 +55,30 @@ fn words_stand_between_spaces_and_tabs(rt: HostRuntime) -> Result<(), Fail> {
     assert!(rt; words.next().is_none());
     Ok(())
 }
+
+#[test]
+fn marked_words_are_taken_and_others_left(rt: HostRuntime) -> Result<(), Fail> {
+    let mut words = Words::new(b"s1 *65535\tt007  x9 n400000010 r4000000000 r12a q");
+    for (mark, number) in [(b's', 1), (b'*', 65_535), (b't', 7)] {
+        let word = words.next_marked().ok_or("a word is missing")?;
+        assert_eq!(rt; word.mark, mark);
+        assert_eq!(rt; word.number, number);
+    }
+    let left = [
+        (b"x9".as_slice(), false),
+        (b"n400000010", true),
+        (b"r4000000000", true),
+        (b"r12a", false),
+        (b"q", false),
+    ];
+    for (word, is_marked) in left {
+        if is_marked {
+            assert!(rt; words.next_marked().is_some());
+        } else {
+            assert!(rt; words.next_marked().is_none());
+            assert_eq!(rt; words.next().ok_or("a word is missing")?, word);
+        }
+    }
+    assert!(rt; words.next_marked().is_none());
+    Ok(())
+}

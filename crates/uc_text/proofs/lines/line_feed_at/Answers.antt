@@ -1,12 +1,7 @@
-use Rattle.std.proofs.Common.{rules, tests, ◌∙◌, ap}
+use Rattle.std.proofs.Common.{◌∙◌, ap}
 use Rattle.std.specs.Prelude.{unwrap_or, length}
-use Rattle.std.proofs.lemmas.Iterator.{YieldsList-from_slice}
-use Rattle.std.proofs.lemmas.Iterator.Search.{position_from_yields_List}
-use Rattle.uc_text.specs.Lines.{is_line_feed}
-use Rattle.uc_text.proofs.Pieces.{position_or_end}
+use Rattle.uc_text.proofs.Pieces.{first_byte_at}
 use Rattle.uc_text.proofs.lines.line_feed_at.Goals as goal
 
 pub returns-clause-value : goal.returns-clause-value
-returns-clause-value c =
-    let found = position_from_yields_List is_line_feed _ _ c.position.result c.position.ensures.ran (YieldsList-from_slice c.args.bytes.now cc) (λ x b q k. search (rules, tests)) in
-    c.unwrap_or.ensures ∙ ap (λ r. unwrap_or r (length c.args.bytes.now)) found ∙ position_or_end is_line_feed c.args.bytes.now
+returns-clause-value c = c.unwrap_or.ensures ∙ first_byte_at 10 c.args.bytes.now c.memchr.result c.memchr.ensures
