@@ -161,10 +161,6 @@ unfolding read_on
 none_left limits before load first lines all rest next r same none is =
     subst (λ (a : ScriptAnswer). GoesOn limits (in_load before first) all next rest (Err a)) (sym is) (sym same ∙ ap (read_on limits (in_load before load)) none)
 
--- the words have the form that another line is written as
-pub has_end : (words : List (List ℕ)) (text : List ℕ) (r b : Bool) → text ≡ written form.End → r ≡ have_form (words_of text) words → r ≡ b → has_form words form.End ≡ b
-has_end words text r b is result value = ap (λ (t : List ℕ). have_form (words_of t) words) (sym is) ∙ sym result ∙ value
-
 -- ---- forms outside loads
 
 pub single_outside : (place : Place) (words : List (List ℕ)) (one : Form) → place ≢ InLoad → form_of place words ≡ Some one → one ≢ form.Load → one ≢ form.LoadForce → is_single one ≡ true

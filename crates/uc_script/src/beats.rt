@@ -29,8 +29,8 @@ pub fn add_beats(
     while let Some(read) = next_beat(limits, &mut words) {
         match read {
             Ok(beat) => {
-                beats.push(beat)?;
                 *events = events.saturating_add(events_of(limits, beat));
+                beats.push(beat)?;
             }
             Err(ScriptCause::Number) => spelled = false,
             Err(ScriptCause::Range) => in_range = false,
@@ -70,11 +70,8 @@ fn read_beat(limits: Limits, first: u8, number: Option<u64>) -> Result<Beat, Scr
     let Some(value) = number else {
         return Err(ScriptCause::Number);
     };
-    if value >= 1 << 16 {
-        return Err(ScriptCause::Range);
-    }
-    let beat = kind.with(value as u16);
-    if fits(limits, beat) {
+    let beat = kind.with((value % (1 << 16)) as u16);
+    if value < 1 << 16 && fits(limits, beat) {
         Ok(beat)
     } else {
         Err(ScriptCause::Range)

@@ -7,7 +7,7 @@ ghost use Rattle.script_text.specs.Forms.{has_form};
 
 use crate::answer::{LineAnswer, ScriptAnswer};
 use crate::beats::add_beats;
-use crate::forms::{form_of, has_form};
+use crate::forms::{form_of, is_end};
 use crate::names::names_of;
 use crate::numbers::{stated_below, stated_number};
 use script_text::{
@@ -207,7 +207,7 @@ impl Draft {
         let mut load = load;
         let mut events = 0;
         while let Some(line) = lines.next_counted() {
-            if has_form(Form::End.written(), line.text) {
+            if is_end(line.text) {
                 return self.end_load(load);
             }
             match add_beats(limits, line.text, &mut load.beats, &mut events) {

@@ -3,7 +3,8 @@ ghost use Rattle.std.specs.Prelude.{◌≡◌, ◌≤◌};
 ghost use Rattle.std.specs.List.{list_all};
 ghost use Rattle.std.specs.Str.{is_utf8};
 ghost use Rattle.uc_text.specs.Lines.{words_of};
-ghost use Rattle.script_text.specs.Forms.{is_beat, is_number, are_names, is_last, have_last, have_form, form_of};
+ghost use Rattle.script_text.specs.Forms.{is_beat, is_number, are_names, is_last, have_last, have_form, has_form, form_of};
+ghost use Rattle.script_text.specs.declared.forms.Form.TheVariants.{End};
 
 use crate::beats::is_beat;
 use script_text::{Form, Place};
@@ -23,7 +24,7 @@ pub fn form_of(place: Place, line: &[u8]) -> Option<Form>
 }
 
 /// Whether a line has the form that is written as another.
-pub fn has_form(form: &[u8], line: &[u8]) -> bool
+fn has_form(form: &[u8], line: &[u8]) -> bool
     ensures { result ≡ have_form (words_of form.now) (words_of line.now) }
 {
     let mut words = Words::new(line);
@@ -37,6 +38,21 @@ pub fn has_form(form: &[u8], line: &[u8]) -> bool
         if !is_number(part) && word != part {
             return false;
         }
+    }
+    words.next().is_none()
+}
+
+/// Whether a line ends a load.
+#[tactic(auto, using(crate::proofs::Words::not_end, crate::proofs::Words::end_alone))]
+pub fn is_end(line: &[u8]) -> bool
+    ensures { result ≡ has_form (words_of line.now) End }
+{
+    let mut words = Words::new(line);
+    let Some(word) = words.next() else {
+        return false;
+    };
+    if word != b"end".as_slice() {
+        return false;
     }
     words.next().is_none()
 }

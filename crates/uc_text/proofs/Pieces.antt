@@ -1,10 +1,10 @@
 -- The first line of a text and the first word of a line, and what is left.
-use Rattle.std.proofs.Common.{◌≡◌, ℕ, ◌+◌, ◌<◌, ◌≤◌, Bool, true, false, not, List, [], ◌∷◌, length, take, drop, map, subst, filter, refl, sym, ap, ◌∙◌, inl, inr, one-add, Option, None, Some, arith}
+use Rattle.std.proofs.Common.{◌≡◌, ℕ, ◌+◌, ◌<◌, ◌≤◌, Bool, true, false, not, List, [], ◌∷◌, length, take, drop, map, subst, filter, refl, sym, ap, ◌∙◌, inl, inr, one-add, Option, None, Some, nat_lt, arith}
 use Rattle.std.specs.Prelude.{unwrap_or}
 use Rattle.std.specs.List.{enumerate_from, position, position_or_len, before_first, after_first, slice_split}
 use Rattle.std.specs.Str.Lines.{strip_carriage_return}
 use Rattle.std.proofs.lemmas.Bool.{cases_lt, cases_Bool, lt-ltb, le-ltb, false_from_ne_true}
-use Rattle.std.proofs.lemmas.List.{take_all, drop_all, length-take, nil_from_length}
+use Rattle.std.proofs.lemmas.List.{take_all, drop_all, length-take, length-drop, nil_from_length}
 use Rattle.std.proofs.lemmas.List.Splits.{slice_split_none, slice_split_first, length-slice_split, slice_split-cons_yes}
 use Rattle.std.proofs.lemmas.List.Sums.{fails_before_first, position_or_len_is, prefix_len-le-length}
 use Rattle.memchr.specs.Find.{IsFirstByte, is_byte}
@@ -171,3 +171,18 @@ no_word rest text front at is_text is_at is_front none =
       | inr le ↦ nil_from_length (from_word is_blank rest) (omega arith)
     ] in
     sym (words_of-from_word rest) ∙ ap words_of empty ∙ words_of-nil
+
+-- a text has words where a byte of one stands in it
+pub has_words : (text : List ℕ) → nat_lt 0 (length (words_of text)) ≡ nat_lt (position_or_len is_in_word text) (length text)
+unfolding from_word
+has_words text =
+    let rest : List ℕ = from_word is_blank text in
+    let left = length-drop (position_or_len is_in_word text) text in
+    elim (cases_lt (position_or_len is_in_word text) (length text)) [
+      | inl lt ↦
+          let some : 0 < length rest = omega (arith, left) in
+          let first = words_of-first rest (omega (arith, length-take (position_or_len is_blank rest) rest, begins_word is_blank text some)) in
+          ap (λ (words : List (List ℕ)). nat_lt 0 (length words)) (sym (words_of-from_word text) ∙ first) ∙ lt-ltb 0 _ (omega arith) ∙ sym (lt-ltb _ _ lt)
+      | inr le ↦
+          ap (λ (words : List (List ℕ)). nat_lt 0 (length words)) (sym (words_of-from_word text) ∙ ap words_of (nil_from_length rest (omega (arith, left))) ∙ words_of-nil) ∙ sym (le-ltb _ _ le)
+    ]

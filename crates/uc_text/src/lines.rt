@@ -1,4 +1,4 @@
-ghost use Rattle.std.specs.Prelude.{◌≡◌, ℕ, ◌+◌, ◌<◌, ◌≤◌, List, ◌∷◌, [], Some, true, length, take, drop, filter, slice_index, IfSome, MatchOption};
+ghost use Rattle.std.specs.Prelude.{◌≡◌, ℕ, ◌+◌, ◌≤◌, List, ◌∷◌, [], Some, length, take, drop, filter, MatchOption};
 ghost use Rattle.std.specs.Iterator.{YieldsFirstBy, item_count};
 ghost use Rattle.std.specs.List.{position_or_len};
 ghost use Rattle.std.specs.Str.Lines.{strip_carriage_return};
@@ -61,10 +61,11 @@ impl<'a> Lines<'a> {
     }
 }
 
+#[tactic(auto, using(crate::proofs::Pieces::has_words))]
 fn counts(line: &Line) -> bool
     ensures { result ≡ counts (line.now.number, line.now.text.now) }
 {
-    Words::new(line.text).next().is_some() && line.text.first() != Some(&b'#')
+    word_at(line.text) < line.text.len() && line.text.first() != Some(&b'#')
 }
 
 impl<'a> Iterator for Lines<'a> {
@@ -161,7 +162,15 @@ impl<'a> Words<'a> {
             return None;
         }
         let (number, count) = leading_number(text)?;
-        self.rest = behind_blank(text.split_at(count).1)?;
+        match text.split_at(count).1 {
+            [] => self.rest = b"",
+            [byte, rest @ ..] => {
+                if !is_blank(*byte) {
+                    return None;
+                }
+                self.rest = rest;
+            }
+        }
         Some(Marked { mark, number })
     }
 }
@@ -202,23 +211,6 @@ fn blank_at(text: &[u8]) -> usize
     text.iter()
         .position(|byte| is_blank(*byte))
         .unwrap_or(text.len())
-}
-
-/// What stands behind the blank at the front of a text, or behind nothing where the text has no byte.
-fn behind_blank(text: &[u8]) -> Option<&[u8]>
-    ensures blank { IfSome result (λ rest. 0 < length text.now → is_blank (slice_index text.now 0) ≡ true) }
-    ensures rest { IfSome result (λ rest. rest.now ≡ drop 1 text.now) }
-{
-    match text {
-        [] => Some(text),
-        [byte, rest @ ..] => {
-            if is_blank(*byte) {
-                Some(rest)
-            } else {
-                None
-            }
-        }
-    }
 }
 
 fn is_blank(byte: u8) -> bool
