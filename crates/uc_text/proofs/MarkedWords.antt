@@ -1,9 +1,9 @@
 -- Words that are one byte and the decimal digits of a number.
-use Rattle.std.proofs.Common.{◌≡◌, ℕ, zero, suc, ◌+◌, ◌<◌, ◌≤◌, ◌^◌, Bool, true, false, ◌&&◌, List, [], ◌∷◌, length, take, drop, ◌-◌, get_or, add-zero, nat_lt, nat_eq, Option, Some, None, refl, sym, ap, subst, ◌∙◌, inl, inr, arith, codes, cond}
+use Rattle.std.proofs.Common.{◌≡◌, ℕ, zero, suc, ◌+◌, ◌<◌, ◌≤◌, ◌^◌, Bool, true, false, List, [], ◌∷◌, length, take, drop, ◌-◌, get_or, add-zero, nat_lt, nat_eq, Some, None, refl, sym, ap, subst, ◌∙◌, inl, inr, arith, codes, cond}
 use Rattle.std.specs.Prelude.{slice_index}
 use Rattle.std.specs.Char.{digit_value, is_digit}
 use Rattle.std.specs.List.{AllPass, list_all, position_or_len, starts_with}
-use Rattle.std.proofs.lemmas.Bool.{cases_Bool, and_parts, and_right, ltb-true, lt-ltb, and_from, cond-true, false_from_ne_true}
+use Rattle.std.proofs.lemmas.Bool.{cases_Bool, and_parts, ltb-true, lt-ltb, and_from, cond-true}
 use Rattle.std.proofs.lemmas.Bool.Decides.{nat_tests}
 use Rattle.std.proofs.lemmas.List.{length-take, length-drop, take_all, drop-drop, get_or-take, get_or-drop}
 use Rattle.std.proofs.lemmas.List.Elements.{All-from_get_or}

@@ -1,5 +1,4 @@
-use Rattle.std.proofs.Common.{◌∙◌, ap}
-use Rattle.std.specs.Prelude.{unwrap_or, length}
+use Rattle.std.proofs.Common.{◌∙◌}
 use Rattle.uc_text.proofs.Pieces.{first_byte_at}
 use Rattle.uc_text.proofs.lines.line_feed_at.Goals as goal
 

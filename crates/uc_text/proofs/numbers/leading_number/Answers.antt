@@ -1,11 +1,9 @@
-use Rattle.std.proofs.Common.{◌≡◌, ◌+◌, ◌<◌, ◌≤◌, get_or, length, take, ap, below_more, arith}
+use Rattle.std.proofs.Common.{◌≡◌, ◌+◌, ◌≤◌, get_or, length, below_more, arith}
 use Rattle.std.specs.Char.{digit_value}
 use Rattle.std.proofs.lemmas.Bool.Decides.{nat_tests}
-use Rattle.std.proofs.lemmas.List.{length-take, get_or-take}
 use Rattle.std.proofs.lemmas.Str.{digit_value_digit}
-use Rattle.uc_text.specs.Numbers.{place_value}
 use Rattle.uc_text.proofs.Places.{place_value-more}
-use Rattle.uc_text.proofs.MarkedWords.{digits_spell, digits_taken}
+use Rattle.uc_text.proofs.MarkedWords.{digits_taken}
 use Rattle.uc_text.proofs.numbers.leading_number.Goals as goal
 
 pub loop-byte-preserved : goal.loop-byte-preserved
