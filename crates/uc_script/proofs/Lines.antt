@@ -1,7 +1,6 @@
 -- The lines of a script, one after the other.
-use Rattle.std.proofs.Common.{◌≡◌, ◌≢◌, ◌⊎◌, inl, inr, ◌<◌, ◌≤◌, ℕ, Bool, true, false, cond, not, List, [], ◌∷◌, ◌++◌, length, drop, Option, Some, None, Result, Ok, Err, refl, sym, ap, subst, ◌∙◌, arith}
-use Rattle.std.specs.List.{list_all, find}
-use Rattle.std.specs.Str.{is_utf8}
+use Rattle.std.proofs.Common.{◌≡◌, ◌≢◌, inl, inr, ◌≤◌, ℕ, Bool, true, false, cond, List, [], ◌∷◌, ◌++◌, length, drop, Option, Some, None, Result, Ok, Err, refl, sym, ap, subst, ◌∙◌, arith}
+use Rattle.std.specs.List.{list_all}
 use Rattle.std.proofs.lemmas.Bool.{le-leb, lt-leb}
 use Rattle.uc_text.specs.Lines.{words_of}
 use Rattle.rendezvous_steps.specs.declared.ends.Beat.{Beat}
@@ -14,8 +13,7 @@ use Rattle.script_text.specs.declared.forms.Form.TheVariants as form
 use Rattle.script_text.specs.declared.forms.Limits.{Limits}
 use Rattle.script_text.specs.declared.forms.Place.{Place}
 use Rattle.script_text.specs.declared.forms.Place.TheVariants.{Front, Top, AfterPool, Commands, InLoad}
-use Rattle.script_text.specs.Stated.{Stated}
-use Rattle.script_text.specs.Forms.{form_of, has_form, have_form, is_beat, written}
+use Rattle.script_text.specs.Forms.{form_of, has_form, is_beat}
 use Rattle.script_text.specs.Stands.{Before, with_load, with_beats, with_end, beats_of}
 use Rattle.script_text.specs.Reading.{after_form, after_line, unless_found, go_on, read_on}
 use Rattle.script_text.proofs.FormsFound.{form_passes, form_outside, boot_names, load_names, force_names}

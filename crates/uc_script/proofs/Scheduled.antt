@@ -1,16 +1,13 @@
 -- The words of a schedule, one after the other.
-use Rattle.std.proofs.Common.{◌≡◌, ◌+◌, ◌-◌, ◌^◌, ◌<◌, ◌≤◌, ℕ, Bool, true, false, cond, not, ◌&&◌, List, [], ◌∷◌, ◌++◌, drop, map, min, nat_lt, Some, None, refl, sym, ap, subst, ◌∙◌, arith, append_assoc, append-nil}
+use Rattle.std.proofs.Common.{◌≡◌, ◌+◌, ◌-◌, ◌^◌, ℕ, Bool, true, false, ◌&&◌, List, [], ◌∷◌, ◌++◌, drop, map, min, refl, sym, ap, subst, ◌∙◌, arith, append_assoc}
 use Rattle.std.specs.List.{list_all}
-use Rattle.std.proofs.lemmas.Bool.{ltb-true, ltb-false, lt-ltb, le-ltb}
 use Rattle.rendezvous_steps.specs.declared.ends.Beat.{Beat}
-use Rattle.script_text.specs.declared.fault.ScriptCause.{ScriptCause}
-use Rattle.script_text.specs.declared.fault.ScriptCause.TheVariants.{Word, Number, Range, TooMany}
 use Rattle.script_text.specs.declared.forms.Limits.{Limits}
 use Rattle.script_text.specs.Forms.{is_beat}
 use Rattle.script_text.specs.Stands.{beat_of, beats_of}
 use Rattle.script_text.specs.Checks.{spells}
 use Rattle.script_text.specs.Within.{fits_beat, events_of, events_of_beat}
-use Rattle.uc_script.specs.Schedules.{Counted, schedule_fault}
+use Rattle.uc_script.specs.Schedules.{Counted}
 
 -- the tests of words so far, and of those that are left, come to the tests of all; the beats so far are counted
 pub record IsScheduledSoFar (limits : Limits) (words : List (List ℕ)) (old : List Beat) (left : List (List ℕ)) (beats : List Beat) (events : ℕ) (spelled in_range : Bool) : Type 0 where

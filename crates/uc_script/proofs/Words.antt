@@ -1,7 +1,6 @@
 -- Words in UTF-8, and the form that is found for a line.
-use Rattle.std.proofs.Common.{◌≡◌, ◌≢◌, ◌&&◌, ℕ, Bool, true, false, List, [], ◌∷◌, length, codes, not, ◌∙◌, Option, None, Some, Result, Ok, Err, refl, ap, sym, arith}
+use Rattle.std.proofs.Common.{◌≡◌, ◌&&◌, ℕ, Bool, true, false, List, [], ◌∷◌, length, codes, not, ◌∙◌, Option, None, Some, Result, Ok, Err, refl, ap, sym, arith}
 use Rattle.std.specs.Prelude.{◌==◌, MatchOption, MatchResult, is_ok, is_some}
-use Rattle.std.specs.Result.{IsOk}
 use Rattle.std.specs.Str.{IsUtf8, bytes_eq, is_utf8}
 use Rattle.std.proofs.lemmas.Bool.{false_from_ne_true}
 use Rattle.std.proofs.lemmas.Bool.Decides.{nat_tests}

@@ -1,5 +1,5 @@
 -- What the parts of the reader answer. No clause says when memory runs out.
-use Rattle.std.specs.Prelude.{◌≡◌, ◌⊎◌, ℕ, ◌<◌, ◌≤◌, ◌^◌, Bool, true, false, List, [], ◌∷◌, ◌++◌, length, slice_index_or, Option, Some, None, Result, Ok, Err, MatchResult}
+use Rattle.std.specs.Prelude.{◌≡◌, ◌⊎◌, ℕ, ◌<◌, ◌≤◌, ◌^◌, Bool, true, false, List, [], length, slice_index_or, Option, Some, None, Result, Ok, Err}
 use Rattle.uc_script.specs.declared.answer.LineAnswer.{LineAnswer}
 use Rattle.uc_script.specs.declared.answer.LineAnswer.TheVariants as line
 use Rattle.uc_script.specs.declared.answer.ScriptAnswer.{ScriptAnswer}

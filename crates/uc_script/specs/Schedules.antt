@@ -1,5 +1,5 @@
 -- The schedules of loads, read word by word.
-use Rattle.std.specs.Prelude.{◌≡◌, ℕ, ◌-◌, ◌^◌, Bool, true, false, not, List, [], ◌∷◌, ◌++◌, drop, map, min, nat_lt, slice_index, Option, Some, None, is_some, unwrap_or, Result, Ok, Err, if◌then◌else◌}
+use Rattle.std.specs.Prelude.{◌≡◌, ℕ, ◌-◌, ◌^◌, true, false, not, List, [], ◌∷◌, ◌++◌, drop, map, min, nat_lt, slice_index, Option, Some, None, is_some, unwrap_or, Result, Ok, Err, if◌then◌else◌}
 use Rattle.std.specs.List.{list_all}
 use Rattle.rendezvous_steps.specs.declared.ends.Beat.{Beat}
 use Rattle.script_text.specs.declared.fault.ScriptCause.{ScriptCause}

@@ -1,4 +1,4 @@
-use Rattle.std.proofs.Common.{◌≡◌, Some, None, ap, sym, ◌∙◌}
+use Rattle.std.proofs.Common.{◌≡◌, Some, ap, sym, ◌∙◌}
 use Rattle.uc_text.specs.Lines.{words_of}
 use Rattle.script_text.specs.declared.forms.Form.TheVariants as form
 use Rattle.script_text.specs.Forms.{form_of}

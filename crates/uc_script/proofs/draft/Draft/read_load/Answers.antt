@@ -1,7 +1,5 @@
-use Rattle.std.proofs.Common.{◌≡◌, ◌≤◌, Bool, true, false, filter, length, ap, sym, ◌∙◌, subst, arith}
-use Rattle.uc_text.specs.Lines.{counts, words_of}
-use Rattle.script_text.specs.declared.forms.Form.TheVariants as form
-use Rattle.script_text.specs.Forms.{has_form}
+use Rattle.std.proofs.Common.{filter, length, ap, sym, ◌∙◌, subst, arith}
+use Rattle.uc_text.specs.Lines.{counts}
 use Rattle.script_text.specs.Stands.{Before}
 use Rattle.uc_script.specs.Answers.{EndsLoad}
 use Rattle.uc_script.proofs.Lines.{end_goes_on, beats_go_on, beats_fail, none_left}
