@@ -3,13 +3,12 @@
 use Rattle.std.proofs.Common.{◌≡◌, ◌≢◌, inl, inr, ℕ, ◌+◌, ◌<◌, ◌≤◌, List, length, take, drop, sym, ◌∙◌, ap, subst, arith, length-drop, length-take-le}
 use Rattle.std.proofs.lemmas.Bool.{cases_lt, cases_eq}
 use Rattle.std.proofs.lemmas.List.{drop-take}
+use Rattle.first_fault.specs.Checks.{AllPass}
 use Rattle.uc_bytes.proofs.Fronts.{word-take, half-take}
 use Rattle.uc_bytes.specs.Words.{word}
-use Rattle.uc_bytes.specs.declared.causes.FileCause.{FileCause}
-use Rattle.uc_bytes.specs.declared.causes.FileCause.TheVariants.{Magic, EquivType, TableSmall, TableCut, SectionType, PatchSmall, PatchCut, FamilySize, Chipset}
 use Rattle.amd_format.specs.Equiv.{IsEquiv, amd_magic}
 use Rattle.amd_format.specs.Patch.{IsPatch, IsSection, PastBound, patch_family, patch_id, patch_of, north_device, south_device}
-use Rattle.amd_format.specs.Checks.{EquivFails, SectionFails}
+use Rattle.amd_format.specs.Checks.{EquivFails, SectionFails, equiv_checks, section_checks}
 
 -- the head and the table that the bytes begin with, by their words
 pub equiv_at_front : (bytes : List ℕ) → word bytes 0 ≡ amd_magic → word bytes 4 ≡ 0 → 16 ≤ word bytes 8 → 12 + word bytes 8 ≤ length bytes → IsEquiv (take (12 + word bytes 8) bytes)
@@ -57,13 +56,14 @@ same_or {a} {b} not_other = elim (cases_eq a b) [ inl same ↦ same | inr other 
 at_least : {a b : ℕ} → (a < b → ⊥) → b ≤ a
 at_least {a} {b} not_less = elim (cases_lt a b) [ inl less ↦ absurd (not_less less) | inr more ↦ more ]
 
--- where no check of a container fails, its head and table stand at the front
-pub equiv_begins : (bytes : List ℕ) → ((cause : FileCause) → EquivFails bytes cause → ⊥) → IsEquiv (take (12 + word bytes 8) bytes)
-equiv_begins bytes passes =
-    equiv_at_front bytes (same_or (passes Magic)) (same_or (passes EquivType)) (at_least (passes TableSmall)) (at_least (passes TableCut))
+-- where all checks of a container pass, its head and table stand at the front
+pub equiv_begins : (bytes : List ℕ) → AllPass (EquivFails bytes) equiv_checks → IsEquiv (take (12 + word bytes 8) bytes)
+equiv_begins bytes (long, (magic, (kind, (some, (whole, all))))) =
+    equiv_at_front bytes (same_or magic) (same_or kind) (at_least some) (at_least whole)
 
--- where no check of a section fails, it stands at the front
-pub section_begins : (before : ℕ) (bytes : List ℕ) → ((cause : FileCause) → SectionFails before bytes cause → ⊥) → IsSection (take (8 + word bytes 4) bytes)
-section_begins before bytes passes =
-    section_at_front bytes (same_or (passes SectionType)) (at_least (passes PatchSmall)) (at_least (passes PatchCut)) (passes FamilySize)
-    (same_or (λ other. passes Chipset (inl other))) (same_or (λ other. passes Chipset (inr other)))
+-- where all checks of a section pass, it stands at the front, and few enough patches stand before it
+pub section_begins : (before : ℕ) (bytes : List ℕ) → AllPass (SectionFails before bytes) section_checks → IsSection (take (8 + word bytes 4) bytes) × (before < 65536)
+section_begins before bytes (long, (kind, (some, (whole, (bounded, (no_device, (few, all))))))) = (
+  section_at_front bytes (same_or kind) (at_least some) (at_least whole) bounded (same_or (λ other. no_device (inl other))) (same_or (λ other. no_device (inr other))),
+  elim (cases_lt before 65536) [ inl less ↦ less | inr more ↦ absurd (few more) ],
+)

@@ -1,13 +1,11 @@
 -- Bytes have a reading or a fault and never both, and at most one fault.
-use Rattle.std.proofs.Common.{◌≡◌, inl, inr, ℕ, ◌<◌, ◌≤◌, List, [], ◌∷◌, ◌++◌, length, take, drop, sym, ◌∙◌, ap, subst, refl, arith, length-append, take-append-drop, length-take-le}
-use Rattle.std.specs.Prelude.{◌==◌, if◌then◌else◌}
-use Rattle.std.proofs.lemmas.Bool.{cases_lt}
+use Rattle.std.proofs.Common.{◌≡◌, inl, inr, ℕ, ◌<◌, ◌≤◌, List, [], ◌∷◌, ◌++◌, length, take, drop, sym, ◌∙◌, ap, subst, arith, length-append, take-append-drop, length-take-le}
 use Rattle.std.proofs.lemmas.List.{take_all}
+use Rattle.first_fault.proofs.Search.{first_fails, one_first}
 use Rattle.uc_bytes.specs.Words.{word}
 use Rattle.uc_bytes.specs.declared.causes.FileCause.{FileCause}
-use Rattle.uc_bytes.specs.declared.causes.FileCause.TheVariants.{EquivShort, Magic, EquivType, TableSmall, TableCut, SectionShort, SectionType, PatchSmall, PatchCut, FamilySize, Chipset, TooMany}
 use Rattle.amd_format.specs.File.{FileContainer, AreContainers, AmdFile, joined, patches_in}
-use Rattle.amd_format.specs.Checks.{EquivFails, SectionFails, check_place, IsFirstEquivFault, IsFirstSectionFault, BeginsContainer, IsFirstFault, IsFault}
+use Rattle.amd_format.specs.Checks.{EquivFails, SectionFails, equiv_checks, section_checks, BeginsContainer, IsFirstFault, IsFault}
 use Rattle.uc_bytes.proofs.Fronts.{word-append}
 use Rattle.amd_format.proofs.OneReading.{EquivFront, SectionFront, GoesOn, compare, length_parts}
 use Rattle.amd_format.proofs.Passes.{equiv_passes, section_passes}
@@ -31,14 +29,17 @@ section_front_begins_none cs rest some front (inr begins) =
 -- where a head with its table stands, no check fails
 no_equiv_fault : (cs : List FileContainer) (rest : List ℕ) (cause : FileCause) → EquivFront rest → IsFirstFault cs rest cause → ⊥
 no_equiv_fault cs rest cause front (inl fault) =
-    equiv_passes front.equiv front.rest cause front.is (subst (λ (l : List ℕ). EquivFails l cause) front.split fault.1.fails)
+    let fails : EquivFails rest cause = first_fails (EquivFails rest) equiv_checks cause fault.1 in
+    equiv_passes front.equiv front.rest cause front.is (subst (λ (l : List ℕ). EquivFails l cause) front.split fails)
 no_equiv_fault cs rest cause front (inr fault) = fault.0 (equiv_front_begins cs rest front)
 
 -- where a section stands behind a container and not too many patches, no check fails
 no_section_fault : (cs : List FileContainer) (rest : List ℕ) (cause : FileCause) → 0 < length cs → patches_in cs < 65536 → SectionFront rest → IsFirstFault cs rest cause → ⊥
 no_section_fault cs rest cause some few front (inl fault) = section_front_begins_none cs rest some front fault.0
 no_section_fault cs rest cause some few front (inr fault) =
-    section_passes front.section front.rest front.is (patches_in cs) cause few (subst (λ (l : List ℕ). SectionFails (patches_in cs) l cause) front.split fault.1.fails)
+    let fails : SectionFails (patches_in cs) rest cause =
+    first_fails (SectionFails (patches_in cs) rest) section_checks cause fault.1 in
+    section_passes front.section front.rest front.is (patches_in cs) cause few (subst (λ (l : List ℕ). SectionFails (patches_in cs) l cause) front.split fails)
 
 -- where containers go on, no check fails
 no_fault : (cs ds : List FileContainer) (rest : List ℕ) (cause : FileCause) → patches_in ds ≤ 65536 → GoesOn cs ds rest → IsFirstFault cs rest cause → ⊥
@@ -78,71 +79,12 @@ never_both bytes cs offset cause file fault =
     fault.longest (length bytes) cs (fault_short bytes cs offset cause file fault) (omega arith)
     (subst (λ (l : List ℕ). AmdFile l cs) (sym (take_all (length bytes) bytes (omega arith))) file)
 
--- a container's check by its place
-abbrev pub equiv_cause : ℕ → FileCause
-equiv_cause place =
-    if place == 1 then EquivShort else
-    if place == 2 then Magic else
-    if place == 3 then EquivType else
-    if place == 4 then TableSmall else TableCut
-
--- a section's check by its place
-abbrev pub section_cause : ℕ → FileCause
-section_cause place =
-    if place == 1 then SectionShort else
-    if place == 2 then SectionType else
-    if place == 3 then PatchSmall else
-    if place == 4 then PatchCut else
-    if place == 5 then FamilySize else
-    if place == 6 then Chipset else TooMany
-
--- a check of a container that fails is known by its place
-pub equiv_named : (bytes : List ℕ) (cause : FileCause) → EquivFails bytes cause → cause ≡ equiv_cause (check_place cause)
-equiv_named bytes EquivShort fails = refl
-equiv_named bytes Magic fails = refl
-equiv_named bytes EquivType fails = refl
-equiv_named bytes TableSmall fails = refl
-equiv_named bytes TableCut fails = refl
-equiv_named bytes cause fails = absurd fails
-
--- and so is one of a section
-pub section_named : (before : ℕ) (bytes : List ℕ) (cause : FileCause) → SectionFails before bytes cause → cause ≡ section_cause (check_place cause)
-section_named before bytes SectionShort fails = refl
-section_named before bytes SectionType fails = refl
-section_named before bytes PatchSmall fails = refl
-section_named before bytes PatchCut fails = refl
-section_named before bytes FamilySize fails = refl
-section_named before bytes Chipset fails = refl
-section_named before bytes TooMany fails = refl
-section_named before bytes cause fails = absurd fails
-
--- of two checks that each fail first, the places are one
-same_place : (m n : ℕ) → (m < n → ⊥) → (n < m → ⊥) → m ≡ n
-same_place m n not_less not_more = elim (cases_lt m n) [
-  | inl less ↦ absurd (not_less less)
-  | inr _ ↦ elim (cases_lt n m) [ inl more ↦ absurd (not_more more) | inr _ ↦ omega arith ]
-]
-
--- the first check of a container that fails is one
-one_equiv_cause : (bytes : List ℕ) (c d : FileCause) → IsFirstEquivFault bytes c → IsFirstEquivFault bytes d → c ≡ d
-one_equiv_cause bytes c d first second =
-    let places : check_place c ≡ check_place d =
-    same_place (check_place c) (check_place d) (λ less. second.first c less first.fails) (λ more. first.first d more second.fails) in
-    equiv_named bytes c first.fails ∙ ap equiv_cause places ∙ sym (equiv_named bytes d second.fails)
-
--- and so is that of a section
-one_section_cause : (before : ℕ) (bytes : List ℕ) (c d : FileCause) → IsFirstSectionFault before bytes c → IsFirstSectionFault before bytes d → c ≡ d
-one_section_cause before bytes c d first second =
-    let places : check_place c ≡ check_place d =
-    same_place (check_place c) (check_place d) (λ less. second.first c less first.fails) (λ more. first.first d more second.fails) in
-    section_named before bytes c first.fails ∙ ap section_cause places ∙ sym (section_named before bytes d second.fails)
-
 -- the first check that fails is one
 one_cause : (cs : List FileContainer) (rest : List ℕ) (c d : FileCause) → IsFirstFault cs rest c → IsFirstFault cs rest d → c ≡ d
-one_cause cs rest c d (inl first) (inl second) = one_equiv_cause rest c d first.1 second.1
+one_cause cs rest c d (inl first) (inl second) = one_first (EquivFails rest) equiv_checks c d first.1 second.1
 one_cause cs rest c d (inl first) (inr second) = absurd (second.0 first.0)
 one_cause cs rest c d (inr first) (inl second) = absurd (first.0 second.0)
-one_cause cs rest c d (inr first) (inr second) = one_section_cause (patches_in cs) rest c d first.1 second.1
+one_cause cs rest c d (inr first) (inr second) = one_first (SectionFails (patches_in cs) rest) section_checks c d first.1 second.1
 
 -- two faults are one: neither lies before the other, and there the first check that fails is one
 pub one_fault : (bytes : List ℕ) (m n : ℕ) (c d : FileCause) → IsFault bytes m c → IsFault bytes n d → (m ≡ n) × (c ≡ d)

@@ -1,15 +1,15 @@
 -- Bytes have a reading or a fault.
 use Rattle.std.proofs.Common.{◌≡◌, ◌⊎◌, inl, inr, ⊎_elim, ℕ, zero, suc, ◌+◌, ◌<◌, ◌≤◌, List, [], ◌∷◌, ◌++◌, length, take, drop, sym, ◌∙◌, ap, subst, refl, arith, append-nil, append_assoc, length-append, length-take, length-drop, take-append-drop}
-use Rattle.std.proofs.lemmas.Bool.{cases_lt, cases_eq}
+use Rattle.std.proofs.lemmas.Bool.{cases_eq}
+use Rattle.first_fault.proofs.Decided.{both, decided_le}
 use Rattle.uc_bytes.specs.Words.{word}
 use Rattle.uc_bytes.specs.declared.causes.FileCause.{FileCause}
-use Rattle.uc_bytes.specs.declared.causes.FileCause.TheVariants.{TooMany}
 use Rattle.amd_format.specs.Equiv.{IsEquiv, amd_magic}
 use Rattle.amd_format.specs.Patch.{IsSection}
 use Rattle.amd_format.specs.File.{FileContainer, AreContainers, AmdFile, joined, patches_in}
 use Rattle.amd_format.specs.Checks.{IsFirstFault, IsFault}
 use Rattle.amd_format.proofs.Begins.{equiv_begins, section_begins}
-use Rattle.amd_format.proofs.Checked.{both, decided_le, equiv_checked, section_checked}
+use Rattle.amd_format.proofs.Checked.{equiv_checked, section_checked}
 use Rattle.amd_format.proofs.OneFault.{longest}
 use Rattle.amd_format.proofs.Pushing.{bare, with_section, joined_push_bare, each_push, bare_is, patches_push, joined_push_section, each_push_section, patches_push_section}
 
@@ -105,10 +105,6 @@ first_step bytes = elim (equiv_checked bytes) [
 not_none : (cs : List FileContainer) (c : FileContainer) → cs ++ c ∷ [] ≡ [] → ⊥
 not_none cs c none = omega (arith, ap length none, length-append cs (c ∷ []))
 
--- what is not at least as much is less
-fewer_than : {a b : ℕ} → (b ≤ a → ⊥) → a < b
-fewer_than {a} {b} not_more = elim (cases_lt a b) [ inl less ↦ less | inr more ↦ absurd (not_more more) ]
-
 -- behind containers one more container or section begins, or there is a fault
 next_step : (bytes : List ℕ) (w : Walked bytes) → 0 < length w.rest → Further bytes w.rest ⊎ Fault bytes
 next_step bytes w left =
@@ -125,7 +121,7 @@ next_step bytes w left =
               cause,
               fault_of bytes cs w.rest cause w.split w.each w.few (inr left) (inr (⊎_elim (not_none w.front w.last) none, fault)),
             )
-        | inr passes ↦ inl (add_section bytes w (fewer_than (passes TooMany)) (section_begins (patches_in cs) w.rest passes))
+        | inr passes ↦ let begins = section_begins (patches_in cs) w.rest passes in inl (add_section bytes w begins.1 begins.0)
       ]
     ]
 

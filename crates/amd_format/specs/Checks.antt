@@ -1,5 +1,6 @@
 -- The checks of a file, in their order. The first that fails is the fault.
-use Rattle.std.specs.Prelude.{◌≡◌, ◌≢◌, ◌⊎◌, ℕ, ◌+◌, ◌<◌, ◌≤◌, List, [], ◌++◌, length, take}
+use Rattle.std.specs.Prelude.{◌≡◌, ◌≢◌, ◌⊎◌, ℕ, ◌+◌, ◌<◌, ◌≤◌, List, [], ◌∷◌, ◌++◌, length, take}
+use Rattle.first_fault.specs.Checks.{IsFirst}
 use Rattle.uc_bytes.specs.declared.causes.FileCause.{FileCause}
 use Rattle.uc_bytes.specs.declared.causes.FileCause.TheVariants.{EquivShort, Magic, EquivType, TableSmall, TableCut, SectionShort, SectionType, PatchSmall, PatchCut, FamilySize, Chipset, TooMany}
 use Rattle.uc_bytes.specs.Words.{word}
@@ -28,31 +29,21 @@ SectionFails before bytes Chipset =
 SectionFails before bytes TooMany = 65536 ≤ before
 SectionFails before bytes cause = ⊥
 
--- the place of a check in the order
-abbrev pub check_place : FileCause → ℕ
-check_place EquivShort = 1
-check_place Magic = 2
-check_place EquivType = 3
-check_place TableSmall = 4
-check_place TableCut = 5
-check_place SectionShort = 1
-check_place SectionType = 2
-check_place PatchSmall = 3
-check_place PatchCut = 4
-check_place FamilySize = 5
-check_place Chipset = 6
-check_place TooMany = 7
-check_place _ = 8
+-- the checks of a container, in their order
+abbrev pub equiv_checks : List FileCause
+equiv_checks = EquivShort ∷ Magic ∷ EquivType ∷ TableSmall ∷ TableCut ∷ []
+
+-- the checks of a section, in their order
+abbrev pub section_checks : List FileCause
+section_checks = SectionShort ∷ SectionType ∷ PatchSmall ∷ PatchCut ∷ FamilySize ∷ Chipset ∷ TooMany ∷ []
 
 -- the cause is the first check of a container that fails
-pub record IsFirstEquivFault (bytes : List ℕ) (cause : FileCause) : Type 0 where
-  pub fails : EquivFails bytes cause
-  pub first : (earlier : FileCause) → check_place earlier < check_place cause → EquivFails bytes earlier → ⊥
+abbrev pub IsFirstEquivFault : List ℕ → FileCause → Type 0
+IsFirstEquivFault bytes = IsFirst (EquivFails bytes) equiv_checks
 
 -- the same of a section
-pub record IsFirstSectionFault (before : ℕ) (bytes : List ℕ) (cause : FileCause) : Type 0 where
-  pub fails : SectionFails before bytes cause
-  pub first : (earlier : FileCause) → check_place earlier < check_place cause → SectionFails before bytes earlier → ⊥
+abbrev pub IsFirstSectionFault : ℕ → List ℕ → FileCause → Type 0
+IsFirstSectionFault before bytes = IsFirst (SectionFails before bytes) section_checks
 
 -- After these containers a container begins: at the file's begin, whatever stands there, and later where the magic does.
 -- Everything else that stands after a container is a section.

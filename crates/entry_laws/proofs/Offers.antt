@@ -1,33 +1,14 @@
 -- A core is offered the best of the entries that are admissible for it, or none, and just one.
-use Rattle.std.proofs.Common.{◌≡◌, ◌≢◌, ◌⊎◌, inl, inr, ⊎_elim, ℕ, zero, suc, ◌<◌, ◌≤◌, Bool, true, false, List, [], ◌∷◌, length, Option, Some, None, sym, ap, subst, refl, arith, true≢false}
+use Rattle.std.proofs.Common.{◌≡◌, ◌⊎◌, inl, inr, ⊎_elim, ℕ, zero, suc, ◌<◌, ◌≤◌, Bool, true, false, List, [], ◌∷◌, length, Option, Some, None, sym, ap, subst, refl, arith, true≢false}
 use Rattle.std.specs.Prelude.{IsTrue, slice_get}
 use Rattle.std.proofs.lemmas.Bool.{cases_lt, cases_eq, cases_order}
 use Rattle.std.proofs.lemmas.Option.{none-some, same_Some, slice_get_within}
 use Rattle.uc_bytes.specs.declared.causes.Vendor.{Vendor}
 use Rattle.uc_bytes.specs.declared.causes.Vendor.TheVariants.{Intel, Amd}
-use Rattle.amd_format.proofs.Checked.{Decided, both, decided_le}
+use Rattle.first_fault.proofs.Decided.{Decided, decided_not_equal, decided_lt, decided_le, either, both, decided_by}
 use Rattle.file_entries.specs.declared.facts.CoreFacts.{CoreFacts}
 use Rattle.file_entries.specs.Entry.{Entry}
 use Rattle.file_entries.specs.Selection.{FlagsMeet, HasPair, IsServed, FitsOf, Fits, IsSafe, Admissible, IsBest, IsOffer}
-
--- a fact that holds just where another does is decided as that one is
-decided_by : {P Q : Type 0} → (P → Q) → (Q → P) → Decided P → Decided Q
-decided_by there back (inl holds) = inl (there holds)
-decided_by there back (inr not) = inr (λ holds. not (back holds))
-
--- one of two facts holds, or none
-either : {P Q : Type 0} → Decided P → Decided Q → Decided (P ⊎ Q)
-either (inl p) q = inl (inl p)
-either (inr not) (inl q) = inl (inr q)
-either (inr not) (inr none) = inr (⊎_elim not none)
-
--- two numbers differ or do not
-decided_not_equal : (a b : ℕ) → Decided (a ≢ b)
-decided_not_equal a b = elim (cases_eq a b) [ inl same ↦ inr (λ other. other same) | inr other ↦ inl other ]
-
--- one number is below another or is not
-decided_lt : (a b : ℕ) → Decided (a < b)
-decided_lt a b = elim (cases_lt a b) [ inl less ↦ inl less | inr more ↦ inr (λ less. omega arith) ]
 
 -- two vendors are one or are not
 same_vendor : (v w : Vendor) → Decided (v ≡ w)

@@ -5,7 +5,7 @@ use Rattle.uc_bytes.specs.declared.causes.FileCause.{FileCause}
 use Rattle.intel_format.proofs.OneReading.{one_reading as one_intel}
 use Rattle.intel_format.proofs.OneFault.{never_both as never_both_intel, one_fault as one_intel_fault}
 use Rattle.intel_format.proofs.ReadingOrFault.{reading_or_fault as intel_or_fault}
-use Rattle.amd_format.proofs.Checked.{Decided, both, decided_le}
+use Rattle.first_fault.proofs.Decided.{Decided, both, decided_le}
 use Rattle.amd_format.proofs.OneReading.{one_reading as one_amd}
 use Rattle.amd_format.proofs.OneFault.{never_both as never_both_amd, one_fault as one_amd_fault}
 use Rattle.amd_format.proofs.ReadingOrFault.{reading_or_fault as amd_or_fault}

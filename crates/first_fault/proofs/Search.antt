@@ -1,12 +1,9 @@
 -- The search for the first check that fails.
-use Rattle.std.proofs.Common.{◌≡◌, ◌⊎◌, inl, inr, Bool, true, false, cond, List, [], ◌∷◌, Some, None, refl, sym, ap, ◌∙◌}
+use Rattle.std.proofs.Common.{◌≡◌, ◌⊎◌, inl, inr, Bool, true, false, cond, List, [], ◌∷◌, ◌++◌, map, Some, None, refl, sym, ap, subst, ◌∙◌}
 use Rattle.std.specs.List.{find}
 use Rattle.std.proofs.lemmas.Bool.{false≢true, false_from_ne_true, cond-true, cond-false}
-use Rattle.first_fault.specs.Checks.{AllPass, IsFirst, first_of}
-
--- a fact holds or does not
-abbrev pub Decided : Type 0 → Type 0
-Decided P = P ⊎ (P → ⊥)
+use Rattle.first_fault.specs.Checks.{AllPass, IsFirst}
+use Rattle.first_fault.proofs.Decided.{Decided}
 
 -- one check fails first, or all pass
 pub searched : {C : Type 0} (Fails : C → Type 0) → ((cause : C) → Decided (Fails cause)) → (checks : List C) → ((cause : C) × IsFirst Fails checks cause) ⊎ AllPass Fails checks
@@ -33,7 +30,48 @@ none_first Fails [] cause pass first = first
 none_first Fails (check ∷ checks) cause pass (inl first) = pass.0 first.0
 none_first Fails (check ∷ checks) cause pass (inr first) = none_first Fails checks cause pass.1 first.1
 
--- what the search by tests finds
+-- the check that fails first fails
+pub first_fails : {C : Type 0} (Fails : C → Type 0) (checks : List C) (cause : C) → IsFirst Fails checks cause → Fails cause
+first_fails Fails [] cause first = absurd first
+first_fails Fails (check ∷ checks) cause (inl first) = subst Fails (sym first.1) first.0
+first_fails Fails (check ∷ checks) cause (inr first) = first_fails Fails checks cause first.1
+
+-- ---- checks, and further checks behind them
+
+module _ {C : Type 0} (Fails : C → Type 0) (back : List C) where
+  pub pass_together : (front : List C) → AllPass Fails front → AllPass Fails back → AllPass Fails (front ++ back)
+  pass_together [] pass behind = behind
+  pass_together (check ∷ front) pass behind = (pass.0, pass_together front pass.1 behind)
+
+  pub pass_in_front : (front : List C) → AllPass Fails (front ++ back) → AllPass Fails front
+  pass_in_front [] pass = tt
+  pass_in_front (check ∷ front) pass = (pass.0, pass_in_front front pass.1)
+
+  pub pass_behind : (front : List C) → AllPass Fails (front ++ back) → AllPass Fails back
+  pass_behind [] pass = pass
+  pass_behind (check ∷ front) pass = pass_behind front pass.1
+
+  -- what fails first of the front fails first of all
+  pub first_in_front : (front : List C) (cause : C) → IsFirst Fails front cause → IsFirst Fails (front ++ back) cause
+  first_in_front [] cause first = absurd first
+  first_in_front (check ∷ front) cause (inl first) = inl first
+  first_in_front (check ∷ front) cause (inr first) = inr (first.0, first_in_front front cause first.1)
+
+  -- so does what fails first behind a front that passes
+  pub first_behind : (front : List C) (cause : C) → AllPass Fails front → IsFirst Fails back cause → IsFirst Fails (front ++ back) cause
+  first_behind [] cause pass first = first
+  first_behind (check ∷ front) cause pass first = inr (pass.0, first_behind front cause pass.1 first)
+
+-- where checks fail just where others of the same causes do, the same one fails first
+pub first_alike : {A C : Type 0} (named : A → C) (F G : C → Type 0) → ((a : A) → F (named a) → G (named a)) → ((a : A) → G (named a) → F (named a)) → (members : List A) (cause : C)
+    → IsFirst F (map named members) cause → IsFirst G (map named members) cause
+first_alike named F G there back [] cause first = absurd first
+first_alike named F G there back (a ∷ members) cause (inl first) = inl (there a first.0, first.1)
+first_alike named F G there back (a ∷ members) cause (inr first) =
+    inr (λ fails. first.0 (back a fails), first_alike named F G there back members cause first.1)
+
+-- ---- what the search by tests finds
+
 module _ {C : Type 0} (fails : C → Bool) where
   abbrev pub FailsBy : C → Type 0
   FailsBy cause = fails cause ≡ true
