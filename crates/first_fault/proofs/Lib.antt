@@ -1,3 +1,4 @@
+pub mod Alike
 pub mod Decided
 pub mod Numbered
 pub mod Search

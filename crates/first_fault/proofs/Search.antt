@@ -1,5 +1,5 @@
 -- The search for the first check that fails.
-use Rattle.std.proofs.Common.{◌≡◌, ◌⊎◌, inl, inr, Bool, true, false, cond, List, [], ◌∷◌, ◌++◌, map, Some, None, refl, sym, ap, subst, ◌∙◌}
+use Rattle.std.proofs.Common.{◌≡◌, ◌⊎◌, inl, inr, Bool, true, false, cond, List, [], ◌∷◌, ◌++◌, Some, None, refl, sym, ap, subst, ◌∙◌}
 use Rattle.std.specs.List.{find}
 use Rattle.std.proofs.lemmas.Bool.{false≢true, false_from_ne_true, cond-true, cond-false}
 use Rattle.first_fault.specs.Checks.{AllPass, IsFirst}
@@ -61,14 +61,6 @@ module _ {C : Type 0} (Fails : C → Type 0) (back : List C) where
   pub first_behind : (front : List C) (cause : C) → AllPass Fails front → IsFirst Fails back cause → IsFirst Fails (front ++ back) cause
   first_behind [] cause pass first = first
   first_behind (check ∷ front) cause pass first = inr (pass.0, first_behind front cause pass.1 first)
-
--- where checks fail just where others of the same causes do, the same one fails first
-pub first_alike : {A C : Type 0} (named : A → C) (F G : C → Type 0) → ((a : A) → F (named a) → G (named a)) → ((a : A) → G (named a) → F (named a)) → (members : List A) (cause : C)
-    → IsFirst F (map named members) cause → IsFirst G (map named members) cause
-first_alike named F G there back [] cause first = absurd first
-first_alike named F G there back (a ∷ members) cause (inl first) = inl (there a first.0, first.1)
-first_alike named F G there back (a ∷ members) cause (inr first) =
-    inr (λ fails. first.0 (back a fails), first_alike named F G there back members cause first.1)
 
 -- ---- what the search by tests finds
 

@@ -1,14 +1,18 @@
 -- What a front's reader knows where it answers.
-use Rattle.std.proofs.Common.{◌≡◌, ◌≢◌, inl, inr, ⊎_elim, ℕ, ◌+◌, ◌-◌, ◌<◌, ◌≤◌, List, length, take, drop, sym, subst, ap, ◌∙◌, arith, take-append-drop, length-take}
-use Rattle.std.proofs.lemmas.Bool.{cases_lt}
+use Rattle.std.proofs.Common.{◌≡◌, ◌≢◌, inl, inr, ⊎_elim, ℕ, ◌+◌, ◌-◌, ◌<◌, ◌≤◌, List, [], ◌∷◌, length, map, take, drop, refl, sym, subst, ap, ◌∙◌, arith, take-append-drop, length-take}
+use Rattle.std.specs.List.{range_with_len}
 use Rattle.std.proofs.lemmas.Slice.{between_is}
+use Rattle.first_fault.specs.Checks.{AllPass, IsFirst}
+use Rattle.first_fault.proofs.Alike.{AreAlike, first_alike, numbered_alike}
+use Rattle.first_fault.proofs.Numbered.{all_pass}
+use Rattle.first_fault.proofs.Search.{first_in_front, first_behind}
 use Rattle.uc_bytes.specs.Words.{word_sum_of}
 use Rattle.uc_bytes.specs.declared.causes.FileCause.{FileCause}
-use Rattle.uc_bytes.specs.declared.causes.FileCause.TheVariants.{Short, SizeUnaligned, TotalSmall, DataPastTotal, Version, Truncated, Sum, TooMany}
+use Rattle.uc_bytes.specs.declared.causes.FileCause.TheVariants.{Short, SizeUnaligned, TotalSmall, DataPastTotal, Version, ExtCut, ExtCount, ExtSum, EntrySum, Sum}
 use Rattle.intel_format.specs.declared.header.IntelHeader.{IntelHeader}
 use Rattle.intel_format.specs.Header.{header_of, data_len, total_len, header_triple}
-use Rattle.intel_format.specs.Update.{IsTable, IsSoundHeader}
-use Rattle.intel_format.specs.Checks.{Fails, TableFails, IsFirstFault, check_place, table_of, head_and_data}
+use Rattle.intel_format.specs.Update.{IsTable, IsSoundHeader, entry_count}
+use Rattle.intel_format.specs.Checks.{Fails, TableFails, header_checks, table_checks, body_checks, IsFirstTableFault, IsFirstFault, table_of, head_and_data}
 use Rattle.intel_format.proofs.Passes.{some_table}
 use Rattle.intel_format.proofs.Begins.{update_at_front}
 use Rattle.intel_file.specs.Front.{HasPairs, HasTableFault, BeginsWith}
@@ -16,63 +20,57 @@ use Rattle.intel_file.specs.Front.{HasPairs, HasTableFault, BeginsWith}
 taken : (n : ℕ) (l : List ℕ) → n ≤ length l → length (take n l) ≡ n
 taken n l within = simp length-take (omega arith)
 
--- the checks of a table, as those of the update that it belongs to
-to_table : (before : ℕ) (bytes : List ℕ) (cause : FileCause) → 8 ≤ check_place cause → check_place cause < 12 → Fails before bytes cause → (0 < length (table_of bytes)) × TableFails (header_triple (header_of bytes)) (table_of bytes) cause
-to_table before bytes TooMany low high fails = absurd (omega arith)
-to_table before bytes Short low high fails = absurd (omega arith)
-to_table before bytes SizeUnaligned low high fails = absurd (omega arith)
-to_table before bytes TotalSmall low high fails = absurd (omega arith)
-to_table before bytes DataPastTotal low high fails = absurd (omega arith)
-to_table before bytes Version low high fails = absurd (omega arith)
-to_table before bytes Truncated low high fails = absurd (omega arith)
-to_table before bytes Sum low high fails = absurd (omega arith)
-to_table before bytes cause low high fails = fails
+module _ (before : ℕ) (bytes : List ℕ) where
+  abbrev FailsHere : FileCause → Type 0
+  FailsHere = Fails before bytes
 
-of_table : (before : ℕ) (bytes : List ℕ) (cause : FileCause) → 8 ≤ check_place cause → check_place cause < 12 → 0 < length (table_of bytes) → TableFails (header_triple (header_of bytes)) (table_of bytes) cause → Fails before bytes cause
-of_table before bytes TooMany low high some fails = absurd (omega arith)
-of_table before bytes Short low high some fails = absurd (omega arith)
-of_table before bytes SizeUnaligned low high some fails = absurd (omega arith)
-of_table before bytes TotalSmall low high some fails = absurd (omega arith)
-of_table before bytes DataPastTotal low high some fails = absurd (omega arith)
-of_table before bytes Version low high some fails = absurd (omega arith)
-of_table before bytes Truncated low high some fails = absurd (omega arith)
-of_table before bytes Sum low high some fails = absurd (omega arith)
-of_table before bytes cause low high some fails = (some, fails)
+  abbrev table : List ℕ
+  table = table_of bytes
 
-module _ (before : ℕ) (bytes : List ℕ) (few : before < 65536) (sound : IsSoundHeader (header_of bytes)) (whole : total_len (header_of bytes) ≤ length bytes) where
-  -- the checks before those of the table
-  header_passes : (cause : FileCause) → check_place cause < 8 → Fails before bytes cause → ⊥
-  header_passes TooMany below fails = omega (arith, few)
-  header_passes Short below fails = omega (arith, sound.header_fits, whole)
-  header_passes SizeUnaligned below fails = ⊎_elim (λ odd. odd sound.data_even) (λ odd. odd sound.total_even) fails
-  header_passes TotalSmall below fails = omega (arith, sound.header_fits)
-  header_passes DataPastTotal below fails = omega (arith, sound.data_fits)
-  header_passes Version below fails = ⊎_elim (λ other. other sound.version) (λ other. other sound.loader) fails
-  header_passes Truncated below fails = omega (arith, whole)
-  header_passes cause below fails = absurd (omega arith)
+  abbrev triple : ℕ
+  triple = header_triple (header_of bytes)
 
-  pub table_fault : (cause : FileCause) → HasTableFault (header_triple (header_of bytes)) (table_of bytes) cause → IsFirstFault before bytes cause
-  table_fault cause fault = record {
-    fails = of_table before bytes cause fault.of_table.0 fault.of_table.1 fault.some fault.first.fails;
-    first = λ earlier below fails. elim (cases_lt (check_place earlier) 8) [
-      | inl header ↦ header_passes earlier header fails
-      | inr table ↦ fault.first.first earlier below (to_table before bytes earlier table (omega (arith, fault.of_table.1)) fails).1
-    ];
-  }
+  -- the first check that fails of a table that is there is so of those of a table within an update
+  of_table : 0 < length table → (cause : FileCause) → IsFirstTableFault triple table cause → IsFirst FailsHere (table_checks table) cause
+  of_table some cause first =
+      let entries : AreAlike (TableFails triple table) FailsHere (map EntrySum (range_with_len 0 (entry_count table))) =
+      numbered_alike _ _ EntrySum 0 (entry_count table) (λ i fails. (some, fails)) (λ i fails. fails.1) in
+      let alike : AreAlike (TableFails triple table) FailsHere (table_checks table) =
+      ((λ fails. (some, fails), λ fails. fails.1), ((λ fails. (some, fails), λ fails. fails.1), ((λ fails. (some, fails), λ fails. fails.1), entries))) in
+      first_alike _ FailsHere (table_checks table) cause alike first
 
-  pub sum_fault : (pairs : List (ℕ × ℕ)) → IsTable (header_triple (header_of bytes)) (table_of bytes) pairs → word_sum_of (head_and_data bytes) ≢ 0 → IsFirstFault before bytes Sum
-  sum_fault pairs is_table other = record {
-    fails = other;
-    first = λ earlier below fails. elim (cases_lt (check_place earlier) 8) [
-      | inl header ↦ header_passes earlier header fails
-      | inr table ↦
-          let of = to_table before bytes earlier table (omega arith) fails in
-          some_table _ _ pairs earlier is_table of.0 of.1
-    ];
-  }
+  -- where the table is sound, or none stands there, its checks pass
+  table_pass : (pairs : List (ℕ × ℕ)) → IsTable triple table pairs → AllPass FailsHere (table_checks table)
+  table_pass pairs is =
+      let passes : (cause : FileCause) → (0 < length table) × TableFails triple table cause → ⊥ =
+      λ cause fails. some_table triple table pairs cause is fails.0 fails.1 in
+      (passes ExtCut, (passes ExtCount, (passes ExtSum, all_pass FailsHere EntrySum 0 (entry_count table) (λ i least most. passes (EntrySum i)))))
+
+  module _ (few : before < 65536) (long : 48 ≤ length bytes) (sound : IsSoundHeader (header_of bytes)) where
+    header_pass : AllPass FailsHere header_checks
+    header_pass =
+        let short : FailsHere Short → ⊥ = λ fails. omega (arith, long, fails) in
+        let sizes : FailsHere SizeUnaligned → ⊥ = ⊎_elim (λ odd. odd sound.data_even) (λ odd. odd sound.total_even) in
+        let total : FailsHere TotalSmall → ⊥ = λ fails. omega (arith, sound.header_fits, fails) in
+        let data_end : FailsHere DataPastTotal → ⊥ = λ fails. omega (arith, sound.data_fits, fails) in
+        let version : FailsHere Version → ⊥ = ⊎_elim (λ other. other sound.version) (λ other. other sound.loader) in
+        (short, (sizes, (total, (data_end, (version, tt)))))
+
+    -- behind a sound header the length is checked, the table, and the sum
+    behind_header : (cause : FileCause) → IsFirst FailsHere (body_checks bytes) cause → IsFirstFault before bytes cause
+    behind_header cause first = inr (λ many. omega (arith, few, many), first_behind FailsHere (body_checks bytes) header_checks cause header_pass first)
+
+    module _ (whole : total_len (header_of bytes) ≤ length bytes) where
+      table_fault : (cause : FileCause) → HasTableFault triple table cause → IsFirstFault before bytes cause
+      table_fault cause fault =
+          behind_header cause (inr (λ cut. omega (arith, whole, cut), first_in_front FailsHere (Sum ∷ []) (table_checks table) cause (of_table fault.some cause fault.first)))
+
+      sum_fault : (pairs : List (ℕ × ℕ)) → IsTable triple table pairs → word_sum_of (head_and_data bytes) ≢ 0 → IsFirstFault before bytes Sum
+      sum_fault pairs is other =
+          behind_header Sum (inr (λ cut. omega (arith, whole, cut), first_behind FailsHere (Sum ∷ []) (table_checks table) Sum (table_pass pairs is) (inl (other, refl))))
 
 -- the same by the header that was read, and the rest that was lent
-module _ (before : ℕ) (bytes : List ℕ) (h : IntelHeader) (rest : List ℕ) (few : before < 65536) (same : h ≡ header_of bytes) (sound : IsSoundHeader h) (whole : total_len h ≤ length bytes)
+module _ (before : ℕ) (bytes : List ℕ) (h : IntelHeader) (rest : List ℕ) (few : before < 65536) (long : 48 ≤ length bytes) (same : h ≡ header_of bytes) (sound : IsSoundHeader h) (whole : total_len h ≤ length bytes)
     (lent : rest ≡ drop (48 + data_len h) (take (total_len h) bytes)) where
   sound_here : IsSoundHeader (header_of bytes)
   sound_here = subst IsSoundHeader same sound
@@ -86,14 +84,14 @@ module _ (before : ℕ) (bytes : List ℕ) (h : IntelHeader) (rest : List ℕ) (
 
   pub table_fault_read : (cause : FileCause) → HasTableFault (header_triple h) rest cause → IsFirstFault before bytes cause
   table_fault_read cause fault =
-      table_fault before bytes few sound_here whole_here cause (table_here (λ triple table. HasTableFault triple table cause) fault)
+      table_fault before bytes few long sound_here whole_here cause (table_here (λ triple table. HasTableFault triple table cause) fault)
 
   data_here : word_sum_of (take (48 + data_len h) bytes) ≡ word_sum_of (head_and_data bytes)
   data_here = ap (λ (g : IntelHeader). word_sum_of (take (48 + data_len g) bytes)) same
 
   pub sum_fault_read : (count : ℕ) → HasPairs (header_triple h) rest count → word_sum_of (take (48 + data_len h) bytes) ≢ 0 → IsFirstFault before bytes Sum
   sum_fault_read count has other =
-      sum_fault before bytes few sound_here whole_here has.pairs (table_here (λ triple table. IsTable triple table has.pairs) has.is_table) (λ zero_sum. other (data_here ∙ zero_sum))
+      sum_fault before bytes few long sound_here whole_here has.pairs (table_here (λ triple table. IsTable triple table has.pairs) has.is_table) (λ zero_sum. other (data_here ∙ zero_sum))
 
   pub begins_read : (count len : ℕ) → HasPairs (header_triple h) rest count → len ≡ total_len h → word_sum_of (take (48 + data_len h) bytes) ≡ 0 → BeginsWith bytes (record { header = h; len = len; pairs = count })
   begins_read count len has long sum = record {

@@ -1,8 +1,8 @@
 -- What the reading of an update at the front of bytes gives.
-use Rattle.std.specs.Prelude.{◌≡◌, ℕ, ◌<◌, ◌≤◌, List, ◌++◌, length, Result, Ok, Err}
+use Rattle.std.specs.Prelude.{◌≡◌, ℕ, ◌<◌, List, ◌++◌, length, Result, Ok, Err}
 use Rattle.uc_bytes.specs.declared.causes.FileCause.{FileCause}
 use Rattle.intel_format.specs.Update.{IntelUpdate, IsTable}
-use Rattle.intel_format.specs.Checks.{IsFirstFault, IsFirstTableFault, check_place}
+use Rattle.intel_format.specs.Checks.{IsFirstFault, IsFirstTableFault}
 use Rattle.intel_format.specs.File.{FileUpdate}
 use Rattle.intel_file.specs.declared.front.Front.{Front}
 
@@ -15,7 +15,6 @@ pub record HasPairs (triple : ℕ) (rest : List ℕ) (count : ℕ) : Type 0 wher
 -- a first fault of a table that is there
 pub record HasTableFault (triple : ℕ) (rest : List ℕ) (cause : FileCause) : Type 0 where
   pub some : 0 < length rest
-  pub of_table : (8 ≤ check_place cause) × (check_place cause < 12)
   pub first : IsFirstTableFault triple rest cause
 
 abbrev pub IsTableRead : ℕ → List ℕ → Result ℕ FileCause → Type 0

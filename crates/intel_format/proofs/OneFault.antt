@@ -1,12 +1,11 @@
 -- Bytes have a reading or a fault and never both, and at most one fault.
-use Rattle.std.proofs.Common.{◌≡◌, ◌≢◌, inl, inr, ℕ, ◌<◌, ◌≤◌, List, [], ◌∷◌, ◌++◌, length, take, drop, sym, ◌∙◌, ap, subst, refl, arith, append_assoc, length-append, take-append-drop, length-take}
-use Rattle.std.specs.Prelude.{◌==◌, if◌then◌else◌}
-use Rattle.std.proofs.lemmas.Bool.{cases_lt, cases_eq}
+use Rattle.std.proofs.Common.{◌≡◌, inl, inr, ℕ, ◌<◌, ◌≤◌, List, [], ◌∷◌, ◌++◌, length, take, drop, sym, ◌∙◌, ap, subst, refl, arith, append_assoc, length-append, take-append-drop, length-take}
+use Rattle.std.proofs.lemmas.Bool.{cases_lt}
 use Rattle.std.proofs.lemmas.List.{take_at, drop_at, take_all}
+use Rattle.first_fault.proofs.Search.{first_fails, one_first}
 use Rattle.uc_bytes.specs.declared.causes.FileCause.{FileCause}
-use Rattle.uc_bytes.specs.declared.causes.FileCause.TheVariants.{Short, SizeUnaligned, TotalSmall, DataPastTotal, Version, Truncated, ExtCut, ExtCount, ExtSum, EntrySum, Sum, TooMany}
 use Rattle.intel_format.specs.Update.{IntelUpdate}
-use Rattle.intel_format.specs.Checks.{Fails, IsFirstFault, check_place}
+use Rattle.intel_format.specs.Checks.{Fails, IsFirstFault, update_checks}
 use Rattle.intel_format.specs.File.{FileUpdate, AreUpdates, joined, IntelFile, IsFault}
 use Rattle.intel_format.proofs.OneReading.{one_front, one_reading}
 use Rattle.intel_format.proofs.Passes.{update_passes}
@@ -34,6 +33,10 @@ further (u ∷ us) (v ∷ vs) rest more first second same longer =
     let behind = further us vs rest more first.1 second.1 front.1 shorter in
     (behind.0, omega (arith, behind.1))
 
+-- the first check that fails does fail
+pub fails_first : (before : ℕ) (bytes : List ℕ) (cause : FileCause) → IsFirstFault before bytes cause → Fails before bytes cause
+fails_first before bytes cause first = first_fails (Fails before bytes) (update_checks bytes) cause first
+
 -- no update begins where a check fails
 no_front : (before : ℕ) (rest : List ℕ) (cause : FileCause) → before < 65536 → Front rest → Fails before rest cause → ⊥
 no_front before rest cause few front fails =
@@ -54,84 +57,11 @@ never_both bytes us offset cause file fault =
     fault.longest (length bytes) us (omega (arith, fault.place, fault.left, ap length fault.split, length-append (joined fault.updates) fault.rest)) (omega arith)
     (subst (λ (l : List ℕ). IntelFile l us) (sym (take_all (length bytes) bytes (omega arith))) file)
 
--- the cause by its check's place, and by the number of the entry where it has one
-abbrev pub cause_at : ℕ → ℕ → FileCause
-cause_at place entry =
-    if place == 1 then TooMany else
-    if place == 2 then Short else
-    if place == 3 then SizeUnaligned else
-    if place == 4 then TotalSmall else
-    if place == 5 then DataPastTotal else
-    if place == 6 then Version else
-    if place == 7 then Truncated else
-    if place == 8 then ExtCut else
-    if place == 9 then ExtCount else
-    if place == 10 then ExtSum else
-    if place == 11 then EntrySum entry else Sum
-
-abbrev pub entry_of : FileCause → ℕ
-entry_of (EntrySum i) = i
-entry_of cause = 0
-
-pub named : (before : ℕ) (bytes : List ℕ) (cause : FileCause) → Fails before bytes cause → cause ≡ cause_at (check_place cause) (entry_of cause)
-named before bytes TooMany fails = refl
-named before bytes Short fails = refl
-named before bytes SizeUnaligned fails = refl
-named before bytes TotalSmall fails = refl
-named before bytes DataPastTotal fails = refl
-named before bytes Version fails = refl
-named before bytes Truncated fails = refl
-named before bytes ExtCut fails = refl
-named before bytes ExtCount fails = refl
-named before bytes ExtSum fails = refl
-named before bytes (EntrySum i) fails = refl
-named before bytes Sum fails = refl
-named before bytes cause fails = absurd fails.1
-
--- only the check of an entry stands at its place
-at_entry : (cause : FileCause) → check_place cause ≡ 11 → cause ≡ EntrySum (entry_of cause)
-at_entry (EntrySum i) is = refl
-at_entry cause is = absurd (omega arith)
-
-not_at_entry : (cause : FileCause) → check_place cause ≢ 11 → entry_of cause ≡ 0
-not_at_entry (EntrySum i) other = absurd (other refl)
-not_at_entry cause other = refl
-
--- two entries that are each the first bad one are one
-first_bad : (before : ℕ) (bytes : List ℕ) (i j : ℕ) → Fails before bytes (EntrySum i) → Fails before bytes (EntrySum j) → i ≡ j
-first_bad before bytes i j first second = elim (cases_lt i j) [
-  | inl less ↦ absurd (first.1.1 (second.1.2 i less))
-  | inr not_less ↦ elim (cases_lt j i) [
-    | inl more ↦ absurd (second.1.1 (first.1.2 j more))
-    | inr not_more ↦ omega arith
-  ]
-]
-
-one_entry : (before : ℕ) (bytes : List ℕ) (c d : FileCause) → Fails before bytes c → Fails before bytes d → check_place c ≡ check_place d → entry_of c ≡ entry_of d
-one_entry before bytes c d first second same = elim (cases_eq (check_place c) 11) [
-  | inl at ↦
-      first_bad before bytes (entry_of c) (entry_of d) (subst (Fails before bytes) (at_entry c at) first) (subst (Fails before bytes) (at_entry d (sym same ∙ at)) second)
-  | inr other ↦ not_at_entry c other ∙ sym (not_at_entry d (λ at. other (same ∙ at)))
-]
-
--- the first check that fails is one
-one_cause : (before : ℕ) (bytes : List ℕ) (c d : FileCause) → IsFirstFault before bytes c → IsFirstFault before bytes d → c ≡ d
-one_cause before bytes c d first second = elim (cases_lt (check_place c) (check_place d)) [
-  | inl earlier ↦ absurd (second.first c earlier first.fails)
-  | inr not_earlier ↦ elim (cases_lt (check_place d) (check_place c)) [
-    | inl later ↦ absurd (first.first d later second.fails)
-    | inr not_later ↦
-        let same : check_place c ≡ check_place d = omega arith in
-        let entries = one_entry before bytes c d first.fails second.fails same in
-        named before bytes c first.fails ∙ ap (λ (place : ℕ). cause_at place (entry_of c)) same ∙ ap (λ (entry : ℕ). cause_at (check_place d) entry) entries ∙ sym (named before bytes d second.fails)
-  ]
-]
-
 -- a fault lies no further than another, since no update begins there
 not_further : (bytes : List ℕ) (m n : ℕ) (c d : FileCause) (first : IsFault bytes m c) (second : IsFault bytes n d) → length (joined first.updates) < length (joined second.updates) → ⊥
 not_further bytes m n c d first second longer =
     let behind = further first.updates second.updates first.rest second.rest first.file.each second.file.each (sym first.split ∙ second.split) longer in
-    no_front (length first.updates) first.rest c (omega (arith, behind.1, second.file.few)) behind.0 first.first.fails
+    no_front (length first.updates) first.rest c (omega (arith, behind.1, second.file.few)) behind.0 (fails_first (length first.updates) first.rest c first.first)
 
 pub one_fault : (bytes : List ℕ) (m n : ℕ) (c d : FileCause) → IsFault bytes m c → IsFault bytes n d → (m ≡ n) × (c ≡ d)
 one_fault bytes m n c d first second = elim (cases_lt (length (joined first.updates)) (length (joined second.updates))) [
@@ -150,7 +80,7 @@ one_fault bytes m n c d first second = elim (cases_lt (length (joined first.upda
         let here : IsFirstFault (length second.updates) second.rest c =
         subst (λ (l : List ℕ). IsFirstFault (length second.updates) l c) rests (subst (λ (us : List FileUpdate). IsFirstFault (length us) first.rest c) updates first.first) in (
           first.place ∙ same ∙ sym second.place,
-          one_cause (length second.updates) second.rest c d here second.first,
+          one_first (Fails (length second.updates) second.rest) (update_checks second.rest) c d here second.first,
         )
   ]
 ]

@@ -2,47 +2,37 @@
 use Rattle.std.proofs.Common.{◌≡◌, ◌≢◌, ◌⊎◌, inl, inr, ℕ, zero, suc, ◌+◌, ◌<◌, ◌≤◌, List, [], ◌∷◌, ◌++◌, length, map, take, drop, sym, ◌∙◌, ap, subst, refl, arith, append_assoc, length-append, take-append-drop}
 use Rattle.std.specs.List.{range_with_len}
 use Rattle.std.proofs.lemmas.Bool.{cases_lt, cases_eq}
+use Rattle.first_fault.specs.Checks.{AllPass}
+use Rattle.first_fault.proofs.Numbered.{each_passes}
+use Rattle.first_fault.proofs.Search.{pass_in_front, pass_behind}
 use Rattle.uc_bytes.specs.declared.causes.FileCause.{FileCause}
-use Rattle.uc_bytes.specs.declared.causes.FileCause.TheVariants.{Short, SizeUnaligned, TotalSmall, DataPastTotal, Version, Truncated, ExtCount, ExtSum, EntrySum, Sum, TooMany}
+use Rattle.uc_bytes.specs.declared.causes.FileCause.TheVariants.{EntrySum, Sum}
 use Rattle.intel_format.specs.declared.header.IntelHeader.{IntelHeader}
-use Rattle.intel_format.specs.Header.{header_of, data_len, total_len, header_triple}
+use Rattle.intel_format.specs.Header.{header_of, total_len, header_triple}
 use Rattle.intel_format.specs.Update.{IsTable, IsExtTable, IsSoundHeader, entry_count, entry_sum, pair_at}
-use Rattle.intel_format.specs.Checks.{Fails, IsFirstFault, check_place, table_of}
+use Rattle.intel_format.specs.Checks.{Fails, IsFirstFault, header_checks, table_checks, body_checks, update_checks, table_of}
 use Rattle.intel_format.specs.File.{FileUpdate, AreUpdates, joined, IntelFile, IsFault}
 use Rattle.intel_format.proofs.Begins.{update_at_front}
 use Rattle.intel_format.proofs.OneReading.{update_long}
-use Rattle.intel_format.proofs.OneFault.{Front, longest}
-use Rattle.intel_format.proofs.Checked.{PassBelow, checked, search_entries}
+use Rattle.intel_format.proofs.OneFault.{Front, longest, fails_first}
+use Rattle.intel_format.proofs.Checked.{checked, search_entries}
 
+-- what is not unequal is equal
 same_or : {a b : ℕ} → (a ≢ b → ⊥) → a ≡ b
 same_or {a} {b} not_other = elim (cases_eq a b) [ inl same ↦ same | inr other ↦ absurd (not_other other) ]
 
--- where all checks pass, the update that begins there
-module _ (before : ℕ) (bytes : List ℕ) (passed : PassBelow before bytes 13) where
+-- what is not less is at least as much
+at_least : {a b : ℕ} → (a < b → ⊥) → b ≤ a
+at_least {a} {b} not_less = elim (cases_lt a b) [ inl less ↦ absurd (not_less less) | inr more ↦ more ]
+
+-- a list of length 0 is empty
+empty_list : (l : List ℕ) → length l ≡ 0 → l ≡ []
+empty_list [] is = refl
+empty_list (x ∷ l) is = absurd (omega arith)
+
+module _ (before : ℕ) (bytes : List ℕ) where
   abbrev h : IntelHeader
   h = header_of bytes
-
-  passes : (cause : FileCause) → check_place cause < 13 → Fails before bytes cause → ⊥
-  passes cause below fails = passed cause below fails
-
-  long : 48 ≤ length bytes
-  long = elim (cases_lt (length bytes) 48) [ inl short ↦ absurd (passes Short (omega arith) short) | inr not_short ↦ not_short ]
-
-  sound : IsSoundHeader h
-  sound = record {
-    data_even = same_or (λ odd. passes SizeUnaligned (omega arith) (inl odd));
-    total_even = same_or (λ odd. passes SizeUnaligned (omega arith) (inr odd));
-    header_fits = elim (cases_lt (total_len h) 48) [ inl small ↦ absurd (passes TotalSmall (omega arith) small) | inr fits ↦ fits ];
-    data_fits = elim (cases_lt (total_len h) (48 + data_len h)) [ inl small ↦ absurd (passes DataPastTotal (omega arith) small) | inr fits ↦ fits ];
-    version = same_or (λ other. passes Version (omega arith) (inl other));
-    loader = same_or (λ other. passes Version (omega arith) (inr other));
-  }
-
-  whole : total_len h ≤ length bytes
-  whole = elim (cases_lt (length bytes) (total_len h)) [ inl cut ↦ absurd (passes Truncated (omega arith) cut) | inr not_cut ↦ not_cut ]
-
-  pub few : before < 65536
-  few = elim (cases_lt before 65536) [ inl less ↦ less | inr many ↦ absurd (passes TooMany (omega arith) many) ]
 
   abbrev table : List ℕ
   table = table_of bytes
@@ -50,33 +40,65 @@ module _ (before : ℕ) (bytes : List ℕ) (passed : PassBelow before bytes 13) 
   abbrev pairs : List (ℕ × ℕ)
   pairs = map (pair_at table) (range_with_len 0 (entry_count table))
 
-  is_ext_table : 0 < length table → IsExtTable (header_triple h) table pairs
-  is_ext_table some = record {
-    whole = same_or (λ other. passes ExtCount (omega arith) (some, other));
-    sum = same_or (λ other. passes ExtSum (omega arith) (some, other));
+  -- a header is sound where its checks pass
+  sound_header : AllPass (Fails before bytes) header_checks → IsSoundHeader h
+  sound_header (long, (sizes, (total, (past, (version, all))))) = record {
+    data_even = same_or (λ odd. sizes (inl odd));
+    total_even = same_or (λ odd. sizes (inr odd));
+    header_fits = at_least total;
+    data_fits = at_least past;
+    version = same_or (λ other. version (inl other));
+    loader = same_or (λ other. version (inr other));
+  }
+
+  -- so is a table that is there
+  sound_table : AllPass (Fails before bytes) (table_checks table) → 0 < length table → IsExtTable (header_triple h) table pairs
+  sound_table (cut, (count, (sum, entries))) some = record {
+    whole = same_or (λ other. count (some, other));
+    sum = same_or (λ other. sum (some, other));
     sums = elim (search_entries (entry_sum table) (header_triple h) (entry_count table)) [
       | inl all ↦ all
-      | inr bad ↦ absurd (passes (EntrySum bad.0) (omega arith) (some, (bad.1, bad.2, bad.3)))
+      | inr bad ↦
+          absurd (each_passes (Fails before bytes) EntrySum 0 (entry_count table) entries bad.0 (omega arith) (omega (arith, bad.1)) (some, (bad.1, bad.2, bad.3)))
     ];
     entries = refl;
   }
 
-  empty_list : (l : List ℕ) → length l ≡ 0 → l ≡ []
-  empty_list [] is = refl
-  empty_list (x ∷ l) is = absurd (omega arith)
-
-  is_table : (p : List (ℕ × ℕ)) × IsTable (header_triple h) table p
-  is_table = elim (cases_eq (length table) 0) [
+  -- what stands behind the data is a sound table, or nothing
+  is_table : AllPass (Fails before bytes) (table_checks table) → (p : List (ℕ × ℕ)) × IsTable (header_triple h) table p
+  is_table passed = elim (cases_eq (length table) 0) [
     | inl none ↦ ([], inl (empty_list table none, refl))
-    | inr some ↦ (pairs, inr (is_ext_table (omega arith)))
+    | inr some ↦ (pairs, inr (sound_table passed (omega arith)))
   ]
+
+-- where all checks pass, the update that begins there
+module _ (before : ℕ) (bytes : List ℕ) (passed : AllPass (Fails before bytes) (update_checks bytes)) where
+  abbrev FailsHere : FileCause → Type 0
+  FailsHere = Fails before bytes
+
+  pub few : before < 65536
+  few = elim (cases_lt before 65536) [ inl less ↦ less | inr many ↦ absurd (passed.0 many) ]
+
+  sound : IsSoundHeader (header_of bytes)
+  sound = sound_header before bytes (pass_in_front FailsHere (body_checks bytes) header_checks passed.1)
+
+  -- the checks behind those of the header, and behind those of the table
+  behind_header : AllPass FailsHere (body_checks bytes)
+  behind_header = pass_behind FailsHere (body_checks bytes) header_checks passed.1
+
+  behind_table : AllPass FailsHere (Sum ∷ [])
+  behind_table = pass_behind FailsHere (Sum ∷ []) (table_checks (table_of bytes)) behind_header.1
+
+  -- its table, where it has one
+  with_table : (p : List (ℕ × ℕ)) × IsTable (header_triple (header_of bytes)) (table_of bytes) p
+  with_table = is_table before bytes (pass_in_front FailsHere (Sum ∷ []) (table_checks (table_of bytes)) behind_header.1)
 
   pub begins : Front bytes
   begins = record {
-    update = record { bytes = take (total_len h) bytes; header = h; pairs = is_table.0 };
-    rest = drop (total_len h) bytes;
-    is = update_at_front bytes is_table.0 sound whole (same_or (λ other. passes Sum (omega arith) other)) is_table.1;
-    split = sym (take-append-drop (total_len h) bytes);
+    update = record { bytes = take (total_len (header_of bytes)) bytes; header = header_of bytes; pairs = with_table.0 };
+    rest = drop (total_len (header_of bytes)) bytes;
+    is = update_at_front bytes with_table.0 sound (at_least behind_header.0) (same_or behind_table.0) with_table.1;
+    split = sym (take-append-drop (total_len (header_of bytes)) bytes);
   }
 
 -- bytes with some left: an update begins, or there is a first check that fails
@@ -159,7 +181,7 @@ fault_of bytes us rest cause split each not_many left first = record {
   place = refl;
   left = left;
   longest = λ n others past within file.
-      longest us rest cause n others each first.fails past (omega (arith, ap length split)) (subst (λ (l : List ℕ). IntelFile (take n l) others) split file);
+      longest us rest cause n others each (fails_first (length us) rest cause first) past (omega (arith, ap length split)) (subst (λ (l : List ℕ). IntelFile (take n l) others) split file);
   first = first;
 }
 

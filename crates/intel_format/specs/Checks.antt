@@ -1,5 +1,7 @@
 -- The checks of an update, in their order. The first that fails is the fault.
-use Rattle.std.specs.Prelude.{◌≡◌, ◌≢◌, ◌⊎◌, ℕ, ◌+◌, ◌*◌, ◌%◌, ◌<◌, ◌≤◌, List, length, take, drop}
+use Rattle.std.specs.Prelude.{◌≡◌, ◌≢◌, ◌⊎◌, ℕ, ◌+◌, ◌*◌, ◌%◌, ◌<◌, ◌≤◌, List, [], ◌∷◌, ◌++◌, length, map, take, drop}
+use Rattle.std.specs.List.{range_with_len}
+use Rattle.first_fault.specs.Checks.{IsFirst}
 use Rattle.uc_bytes.specs.declared.causes.FileCause.{FileCause}
 use Rattle.uc_bytes.specs.declared.causes.FileCause.TheVariants.{Short, SizeUnaligned, TotalSmall, DataPastTotal, Version, Truncated, ExtCut, ExtCount, ExtSum, EntrySum, Sum, TooMany}
 use Rattle.uc_bytes.specs.Words.{word_sum_of}
@@ -40,28 +42,30 @@ Fails before bytes Sum = word_sum_of (head_and_data bytes) ≢ 0
 Fails before bytes cause =
     (0 < length (table_of bytes)) × TableFails (header_triple (header_of bytes)) (table_of bytes) cause
 
--- the place of a check in the order
-abbrev pub check_place : FileCause → ℕ
-check_place TooMany = 1
-check_place Short = 2
-check_place SizeUnaligned = 3
-check_place TotalSmall = 4
-check_place DataPastTotal = 5
-check_place Version = 6
-check_place Truncated = 7
-check_place ExtCut = 8
-check_place ExtCount = 9
-check_place ExtSum = 10
-check_place (EntrySum i) = 11
-check_place Sum = 12
-check_place _ = 13
+-- the checks of a header, in their order
+abbrev pub header_checks : List FileCause
+header_checks = Short ∷ SizeUnaligned ∷ TotalSmall ∷ DataPastTotal ∷ Version ∷ []
 
--- the cause is the first check that fails
-pub record IsFirstFault (before : ℕ) (bytes : List ℕ) (cause : FileCause) : Type 0 where
-  pub fails : Fails before bytes cause
-  pub first : (earlier : FileCause) → check_place earlier < check_place cause → Fails before bytes earlier → ⊥
+-- the checks of an extended signature table, in their order: behind those of the whole table, one for each entry
+abbrev pub table_checks : List ℕ → List FileCause
+table_checks table = ExtCut ∷ ExtCount ∷ ExtSum ∷ map EntrySum (range_with_len 0 (entry_count table))
+
+-- the checks of what an update has behind its header, in their order
+abbrev pub body_checks : List ℕ → List FileCause
+body_checks bytes = Truncated ∷ (table_checks (table_of bytes) ++ (Sum ∷ []))
+
+-- the checks of the update that begins the bytes, in their order
+abbrev pub update_checks : List ℕ → List FileCause
+update_checks bytes = TooMany ∷ (header_checks ++ body_checks bytes)
+
+-- the cause is the first check of a header that fails, wherever in a file the header stands
+abbrev pub IsFirstHeaderFault : List ℕ → FileCause → Type 0
+IsFirstHeaderFault bytes = IsFirst (Fails 0 bytes) header_checks
 
 -- the same of a table
-pub record IsFirstTableFault (triple : ℕ) (table : List ℕ) (cause : FileCause) : Type 0 where
-  pub fails : TableFails triple table cause
-  pub first : (earlier : FileCause) → check_place earlier < check_place cause → TableFails triple table earlier → ⊥
+abbrev pub IsFirstTableFault : ℕ → List ℕ → FileCause → Type 0
+IsFirstTableFault triple table = IsFirst (TableFails triple table) (table_checks table)
+
+-- the same of an update
+abbrev pub IsFirstFault : ℕ → List ℕ → FileCause → Type 0
+IsFirstFault before bytes = IsFirst (Fails before bytes) (update_checks bytes)

@@ -5,7 +5,7 @@ use Rattle.uc_bytes.specs.declared.causes.FileCause.TheVariants as causes
 use Rattle.intel_format.specs.declared.header.IntelHeader.{IntelHeader}
 use Rattle.intel_format.specs.Header.{header_of}
 use Rattle.intel_format.specs.Update.{IsSoundHeader}
-use Rattle.intel_format.specs.Checks.{IsFirstFault}
+use Rattle.intel_format.specs.Checks.{IsFirstHeaderFault}
 use Rattle.intel_header.specs.declared.header.HeaderFault.{HeaderFault}
 use Rattle.intel_header.specs.declared.header.HeaderFault.TheVariants.{Short, SizeUnaligned, TotalSmall, DataPastTotal, Version}
 
@@ -20,4 +20,4 @@ cause_of Version = causes.Version
 -- the header at the front, where there is a sound one; else the first check that fails
 abbrev pub IsHeaderRead : List ℕ → Result IntelHeader HeaderFault → Type 0
 IsHeaderRead bytes (Ok h) = (48 ≤ length bytes) × (h ≡ header_of bytes) × IsSoundHeader h
-IsHeaderRead bytes (Err fault) = IsFirstFault 0 bytes (cause_of fault)
+IsHeaderRead bytes (Err fault) = IsFirstHeaderFault bytes (cause_of fault)
