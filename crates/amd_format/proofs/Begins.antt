@@ -53,7 +53,7 @@ same_or : {a b : ℕ} → (a ≢ b → ⊥) → a ≡ b
 same_or {a} {b} not_other = elim (cases_eq a b) [ inl same ↦ same | inr other ↦ absurd (not_other other) ]
 
 -- what is not less is at least as much
-at_least : {a b : ℕ} → (a < b → ⊥) → b ≤ a
+pub at_least : {a b : ℕ} → (a < b → ⊥) → b ≤ a
 at_least {a} {b} not_less = elim (cases_lt a b) [ inl less ↦ absurd (not_less less) | inr more ↦ more ]
 
 -- where all checks of a container pass, its head and table stand at the front

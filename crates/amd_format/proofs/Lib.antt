@@ -5,3 +5,4 @@ pub mod OneReading
 pub mod Passes
 pub mod Pushing
 pub mod ReadingOrFault
+pub mod Settled

@@ -1,8 +1,9 @@
 //! Laws of the definitions: each is the contract of a function that does nothing.
-ghost use Rattle.std.specs.Prelude.{◌≡◌, ◌⊎◌, ℕ, List};
+ghost use Rattle.std.specs.Prelude.{◌≡◌, ◌⊎◌, ℕ, List, ◌++◌};
 ghost use Rattle.uc_bytes.specs.declared.causes.FileCause.{FileCause};
 ghost use Rattle.amd_format.specs.File.{FileContainer, AmdFile};
 ghost use Rattle.amd_format.specs.Checks.{IsFault};
+ghost use Rattle.amd_format.specs.Settled.{IsSettled};
 
 /// Bytes are an AMD file in at most one way.
 pub fn one_reading()
@@ -17,4 +18,10 @@ pub fn reading_or_fault()
         → AmdFile bytes cs → IsFault bytes offset cause → ⊥ }
     ensures one_fault { (bytes : List ℕ) (m n : ℕ) (c d : FileCause)
         → IsFault bytes m c → IsFault bytes n d → (m ≡ n) × (c ≡ d) }
+{}
+
+/// A fault that is not the want of bytes is that of the bytes with any that follow.
+pub fn settled_stays()
+    ensures { (bytes more : List ℕ) (offset : ℕ) (cause : FileCause)
+        → IsSettled bytes offset cause → IsSettled (bytes ++ more) offset cause }
 {}

@@ -62,6 +62,15 @@ module _ {C : Type 0} (Fails : C → Type 0) (back : List C) where
   first_behind [] cause pass first = first
   first_behind (check ∷ front) cause pass first = inr (pass.0, first_behind front cause pass.1 first)
 
+  -- what fails first of all does so of the front, or behind a front that passes
+  pub front_or_behind : (front : List C) (cause : C) → IsFirst Fails (front ++ back) cause → IsFirst Fails front cause ⊎ (AllPass Fails front × IsFirst Fails back cause)
+  front_or_behind [] cause first = inr (tt, first)
+  front_or_behind (check ∷ front) cause (inl first) = inl (inl first)
+  front_or_behind (check ∷ front) cause (inr first) = elim (front_or_behind front cause first.1) [
+    | inl here ↦ inl (inr (first.0, here))
+    | inr there ↦ inr ((first.0, there.0), there.1)
+  ]
+
 -- ---- what the search by tests finds
 
 module _ {C : Type 0} (fails : C → Bool) where

@@ -6,3 +6,4 @@ pub mod OneFault
 pub mod OneReading
 pub mod Passes
 pub mod ReadingOrFault
+pub mod Settled

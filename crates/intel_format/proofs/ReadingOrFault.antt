@@ -22,7 +22,7 @@ same_or : {a b : ℕ} → (a ≢ b → ⊥) → a ≡ b
 same_or {a} {b} not_other = elim (cases_eq a b) [ inl same ↦ same | inr other ↦ absurd (not_other other) ]
 
 -- what is not less is at least as much
-at_least : {a b : ℕ} → (a < b → ⊥) → b ≤ a
+pub at_least : {a b : ℕ} → (a < b → ⊥) → b ≤ a
 at_least {a} {b} not_less = elim (cases_lt a b) [ inl less ↦ absurd (not_less less) | inr more ↦ more ]
 
 -- a list of length 0 is empty
@@ -41,7 +41,7 @@ module _ (before : ℕ) (bytes : List ℕ) where
   pairs = map (pair_at table) (range_with_len 0 (entry_count table))
 
   -- a header is sound where its checks pass
-  sound_header : AllPass (Fails before bytes) header_checks → IsSoundHeader h
+  pub sound_header : AllPass (Fails before bytes) header_checks → IsSoundHeader h
   sound_header (long, (sizes, (total, (past, (version, all))))) = record {
     data_even = same_or (λ odd. sizes (inl odd));
     total_even = same_or (λ odd. sizes (inr odd));

@@ -2,4 +2,5 @@ pub mod Checks
 pub mod Date
 pub mod File
 pub mod Header
+pub mod Settled
 pub mod Update

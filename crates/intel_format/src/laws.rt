@@ -1,7 +1,8 @@
 //! Laws of the definitions: each is the contract of a function that does nothing.
-ghost use Rattle.std.specs.Prelude.{◌≡◌, ◌⊎◌, ℕ, List};
+ghost use Rattle.std.specs.Prelude.{◌≡◌, ◌⊎◌, ℕ, List, ◌++◌};
 ghost use Rattle.uc_bytes.specs.declared.causes.FileCause.{FileCause};
 ghost use Rattle.intel_format.specs.File.{FileUpdate, IntelFile, IsFault};
+ghost use Rattle.intel_format.specs.Settled.{IsSettled};
 
 /// Bytes are an Intel file in at most one way.
 pub fn one_reading()
@@ -16,4 +17,10 @@ pub fn reading_or_fault()
         → IntelFile bytes us → IsFault bytes offset cause → ⊥ }
     ensures one_fault { (bytes : List ℕ) (m n : ℕ) (c d : FileCause)
         → IsFault bytes m c → IsFault bytes n d → (m ≡ n) × (c ≡ d) }
+{}
+
+/// A fault that is not the want of bytes is that of the bytes with any that follow.
+pub fn settled_stays()
+    ensures { (bytes more : List ℕ) (offset : ℕ) (cause : FileCause)
+        → IsSettled bytes offset cause → IsSettled (bytes ++ more) offset cause }
 {}
