@@ -1,3 +1,4 @@
 pub mod Commands
+pub mod Plays
 pub mod Tool
 pub mod Words

@@ -3,7 +3,7 @@
 //!
 //! The texts are made of the lines of `report_text`, and go by what was read (`file_reads`), so they say the same of files
 //! that tell nothing of what they hold. The definitions are in `specs/`: `Words` for the rule of the command line,
-//! `Commands` for the texts of single commands, and `Tool` for the whole program and for the runs that come to their end.
+//! `Commands` and `Plays` for the texts of single commands, and `Tool` for the whole program and for the runs that come to their end.
 #![tactic(auto)]
 
 ghost use Rattle.std.specs.Prelude.{◌≡◌, ◌⊎◌, ℕ, List, Option};
@@ -11,8 +11,12 @@ ghost use Rattle.file_reads.specs.Reads.{Read, AreHeld};
 ghost use Rattle.top_call.specs.declared.status.Status.{Status};
 ghost use Rattle.top_call.specs.declared.status.Status.TheVariants.{Done, ReadFault};
 ghost use Rattle.top_call.specs.Written.{HasText};
+ghost use Rattle.tool_text.specs.Plays.{PlayText, GenText};
 ghost use Rattle.tool_text.specs.Tool.{ToolText, FromReads, CanBeDone};
 ghost use Rattle.tool_text.specs.Words.{asked};
+
+use command_laws::each_command_does_something;
+use gen_laws::{generated_script_is_read, generated_topology_is_read};
 
 /// How many update files a command takes at most.
 pub const MOST_FILES: u32 = 16;
@@ -21,6 +25,17 @@ pub const MOST_FILES: u32 = 16;
 pub fn some_text()
     ensures { (words : List (List ℕ)) (holds : List ℕ → List ℕ) → HasText (FromReads (Unit {0}) holds (ToolText words)) }
 {}
+
+/// Whatever the files hold, there is a text for a session that is played, and for each number one of the session that is
+/// generated from it, for a run in which no read fails and each gives what is held.
+pub fn some_session_text()
+    ensures played { (topology script : List ℕ) (holds : List ℕ → List ℕ) → HasText (FromReads (Unit {0}) holds (PlayText topology script)) }
+    ensures generated { (number : ℕ) (holds : List ℕ → List ℕ) → HasText (FromReads (Unit {0}) holds (GenText number)) }
+{
+    each_command_does_something();
+    generated_topology_is_read();
+    generated_script_is_read();
+}
 
 /// Where what the words ask for can be done, a text of held reads is that of a run that did all, or of one in which a read
 /// failed.
