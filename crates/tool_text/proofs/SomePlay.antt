@@ -49,7 +49,8 @@ use Rattle.tool_text.specs.Tool.{FromReads}
 
 -- ---- a script's commands name threads and cores that are there
 
-in_range : (machine : Machine) (script : Stated) (one : Command) → fits_command (limits_of machine) one ≡ true → InRange (setting_of machine script) one
+in_range : (machine : Machine) (script : Stated) (one : Command) → fits_command (limits_of machine) one ≡ true →
+    InRange (setting_of machine script) one
 in_range machine script (command.Boot names) fits = leb-true (length names) 16 fits
 in_range machine script (command.Online t) fits = ltb-true t (length machine.stated.threads) fits
 in_range machine script (command.Offline t) fits = ltb-true t (length machine.stated.threads) fits
@@ -59,12 +60,15 @@ in_range machine script (command.Refuse core) fits = ltb-true core (length machi
 in_range machine script (command.Accept core) fits = ltb-true core (length machine.stated.cores) fits
 in_range machine script (command.Load force names beats) fits =
     let limits = limits_of machine in
-    let parts = and_parts (nat_le 1 (length names) && nat_le (length names) 16) (nat_le (events_of limits beats) 4194304 && list_all (fits_beat limits) beats) fits in
+    let parts = and_parts (nat_le 1 (length names) && nat_le (length names) 16) (nat_le (events_of limits beats)
+    4194304 && list_all (fits_beat limits) beats) fits in
     leb-true (length names) 16 (and_parts (nat_le 1 (length names)) (nat_le (length names) 16) parts.0).1
 
-pub all_in_range : (machine : Machine) (script : Stated) → IsWithin (limits_of machine) script → All (λ one. InRange (setting_of machine script) one) script.commands
+pub all_in_range : (machine : Machine) (script : Stated) → IsWithin (limits_of machine) script →
+    All (λ one. InRange (setting_of machine script) one) script.commands
 all_in_range machine script is k d below =
-    in_range machine script (get_or script.commands k d) (AllPass-from_list_all (fits_command (limits_of machine)) script.commands is.each k d below)
+    in_range machine script (get_or script.commands k d) (AllPass-from_list_all (fits_command (limits_of machine))
+    script.commands is.each k d below)
 
 -- ---- a session
 
@@ -97,10 +101,12 @@ record SomePlay (machine : Machine) (script : Stated) (holds : List ℕ → List
   read : is_unread answer ≡ false
 
 module _ (sessions : SessionsExist) where
-  some_play : (machine : Machine) (script : Stated) (holds : List ℕ → List ℕ) → IsPartition machine.stated → IsWithin (limits_of machine) script → SomePlay machine script holds
+  some_play : (machine : Machine) (script : Stated) (holds : List ℕ → List ℕ) → IsPartition machine.stated →
+      IsWithin (limits_of machine) script → SomePlay machine script holds
   some_play machine script holds is_partition is_within =
       let setting = setting_of machine script in
-      let some = sessions true setting (opening_state setting) script.commands holds (always_runs item_line true) is_partition (opening_stands setting) (all_in_range machine script is_within) in
+      let some = sessions true setting (opening_state setting) script.commands holds (always_runs item_line true)
+      is_partition (opening_stands setting) (all_in_range machine script is_within) in
       record {
         reads = all_reads some.dids;
         held = some.held;
@@ -118,15 +124,18 @@ module _ (sessions : SessionsExist) where
     abbrev read_of : List ℕ → Read
     read_of name = record { name = name; bytes = holds name }
 
-    script_plays : (machine : Machine) → IsMachine (holds topology) machine → (stated : Stated) → IsScript (limits_of machine) (holds script) stated → HasText PlayTexts
+    script_plays : (machine : Machine) → IsMachine (holds topology) machine → (stated : Stated) →
+        IsScript (limits_of machine) (holds script) stated → HasText PlayTexts
     script_plays machine is stated is_script =
-        let some = some_play machine stated holds (partition (holds topology) machine is.states) (within (limits_of machine) (holds script) stated is_script.states) in
+        let some = some_play machine stated holds (partition (holds topology) machine is.states)
+        (within (limits_of machine) (holds script) stated is_script.states) in
         record {
           text = some.text;
           status = status_of some.answer;
           is_text = record {
             reads = read_of topology ∷ read_of script ∷ some.reads;
-            held = λ told. held_cons holds (read_of topology) (read_of script ∷ some.reads) refl (held_cons holds (read_of script) some.reads refl some.held);
+            held = λ told. held_cons holds (read_of topology) (read_of script ∷ some.reads)
+                refl (held_cons holds (read_of script) some.reads refl some.held);
             is_text = inr
                 (record {
                   machine = machine;
@@ -149,19 +158,28 @@ module _ (sessions : SessionsExist) where
           goes = goes_read some.answer some.read;
         }
 
-    script_refused : (machine : Machine) → IsMachine (holds topology) machine → (line : ℕ) (cause : ScriptCause) → RefusesScript (limits_of machine) (holds script) line cause → HasText PlayTexts
+    script_refused : (machine : Machine) → IsMachine (holds topology) machine → (line : ℕ) (cause : ScriptCause) →
+        RefusesScript (limits_of machine) (holds script) line cause → HasText PlayTexts
     script_refused machine is line cause refuses = record {
       text = script_line line cause;
       status = BadInput;
       is_text = record {
         reads = read_of topology ∷ read_of script ∷ [];
-        held = λ told. held_cons holds (read_of topology) (read_of script ∷ []) refl (held_one holds (read_of script) refl);
+        held = λ told. held_cons holds (read_of topology) (read_of script ∷ []) refl (held_one holds (read_of script)
+            refl);
         is_text = inr
             (record {
               machine = machine;
               behind = read_of script ∷ [];
               states = record { bytes = holds topology; first = refl; is_machine = is };
-              played = inl (record { bytes = holds script; only = refl; line = line; cause = cause; refuses = refuses; lines = refl });
+              played = inl (record {
+                bytes = holds script;
+                only = refl;
+                line = line;
+                cause = cause;
+                refuses = refuses;
+                lines = refl;
+              });
             });
       };
       goes = tt;
@@ -174,7 +192,14 @@ module _ (sessions : SessionsExist) where
       is_text = record {
         reads = read_of topology ∷ [];
         held = λ told. held_one holds (read_of topology) refl;
-        is_text = inl (record { bytes = holds topology; only = refl; line = line; cause = cause; refuses = refuses; lines = refl });
+        is_text = inl (record {
+          bytes = holds topology;
+          only = refl;
+          line = line;
+          cause = cause;
+          refuses = refuses;
+          lines = refl;
+        });
       };
       goes = tt;
     }
@@ -206,15 +231,18 @@ module _ (sessions : SessionsExist) where
     limits_are number =
         let half : ℕ → ℕ = λ thread. thread / 2 in
         let threads : length (generated.threads_of 256) ≡ 256 = length-map-range_with_len half 0 256 in
-        let cores : length (generated.cores_of number 128) ≡ 128 = length-map-range_with_len (generated.core_of number) 0 128 in
+        let cores : length (generated.cores_of number 128) ≡ 128 = length-map-range_with_len (generated.core_of
+        number) 0 128 in
         λ i. record { threads = sym threads i; cores = sym cores i }
 
     pub gen_text : (number : ℕ) (holds : List ℕ → List ℕ) → HasText (FromReads (Unit {0}) holds (GenText number))
     gen_text number holds =
         let machine = generated.machine_of number in
         let script = generated.script_of number in
-        let states = subst (λ (limits : Limits). States limits (script_text number) script) (limits_are number) (scripts number) in
-        let some = some_play machine script (bundle number) (partition (topology_text number) machine (topologies number)) (within (limits_of machine) (script_text number) script states) in
+        let states = subst (λ (limits : Limits). States limits (script_text number) script) (limits_are number)
+        (scripts number) in
+        let some = some_play machine script (bundle number) (partition (topology_text number)
+        machine (topologies number)) (within (limits_of machine) (script_text number) script states) in
         record {
           text = summary_line number some.text;
           status = status_of some.answer;
@@ -223,16 +251,18 @@ module _ (sessions : SessionsExist) where
             held = λ told. held_nil holds;
             is_text = record {
               no_reads = refl;
-              no_files = refl;
-              machine = machine;
-              is_machine = topologies number;
-              stated = script;
-              is_script = states;
-              inner = some.reads;
-              held = some.held;
+              none_fails = refl;
               whole = some.text;
               answer = some.answer;
-              plays = some.plays;
+              generated = record {
+                machine = machine;
+                is_machine = topologies number;
+                stated = script;
+                is_script = states;
+                reads = some.reads;
+                held = some.held;
+                plays = some.plays;
+              };
               lines = refl;
               is_status = refl;
             };

@@ -49,7 +49,8 @@ unread_after count session.ReadFault = Some count
 unread_after count answer = None
 
 -- the commands of a script were run, each with its lines, with these reads
-pub record Plays (machine : Machine) (script : Stated) (reads : List Read) (text : List ℕ) (answer : SessionAnswer) : Type 0 where
+pub record Plays (machine : Machine) (script : Stated) (reads : List Read) (text : List ℕ) (answer : SessionAnswer)
+    : Type 0 where
   pub dids : List Did
   pub steps : Steps true (setting_of machine script) script.commands dids
   pub all : reads ≡ all_reads dids
@@ -80,7 +81,8 @@ ScriptFailsAt script machine reads None text BadInput = IsScriptRefusal script m
 ScriptFailsAt script machine reads files text status = ⊥
 
 -- or it is read and states commands, which are run
-pub record PlaysScript (script : List ℕ) (machine : Machine) (reads : List Read) (files : Option ℕ) (text : List ℕ) (status : Status) : Type 0 where
+pub record PlaysScript (script : List ℕ) (machine : Machine) (reads : List Read) (files : Option ℕ) (text : List ℕ)
+    (status : Status) : Type 0 where
   pub bytes : List ℕ
   pub behind : List Read
   pub first : reads ≡ record { name = script; bytes = bytes } ∷ behind
@@ -91,11 +93,13 @@ pub record PlaysScript (script : List ℕ) (machine : Machine) (reads : List Rea
   pub is_status : status ≡ status_of answer
   pub count : files ≡ unread_after (2 + length behind) answer
 
-pub record PlaysFor (topology script : List ℕ) (reads : List Read) (files : Option ℕ) (text : List ℕ) (status : Status) : Type 0 where
+pub record PlaysFor (topology script : List ℕ) (reads : List Read) (files : Option ℕ) (text : List ℕ)
+    (status : Status) : Type 0 where
   pub machine : Machine
   pub behind : List Read
   pub states : StatesMachine topology machine reads behind
-  pub played : ScriptFailsAt script machine behind files text status ⊎ PlaysScript script machine behind files text status
+  pub played :
+      ScriptFailsAt script machine behind files text status ⊎ PlaysScript script machine behind files text status
 
 abbrev pub PlayText : List ℕ → List ℕ → List Read → Option ℕ → List ℕ → Status → Type 0
 PlayText topology script reads files text status =
@@ -111,22 +115,27 @@ bundle number name = if bytes_eq name (codes "bundle.bin") then intel_file numbe
 abbrev pub summary_line : ℕ → List ℕ → List ℕ
 summary_line number text =
     joined
-    (codes "gen " ∷ decimal number ∷ codes " lines " ∷ decimal (min (count_by is_line_feed text) (2 ^ 64 - 1)) ∷ codes " last " ∷ take 128 (last_line text)
+    (codes "gen " ∷ decimal number
+    ∷ codes " lines " ∷ decimal (min (count_by is_line_feed text) (2 ^ 64 - 1))
+    ∷ codes " last " ∷ take 128 (last_line text)
     ∷ codes "\n" ∷ [])
 
--- the generated topology and the generated script state a session, in which the generated bundle alone is read, and no file of
--- the outside
-pub record GenText (number : ℕ) (reads : List Read) (files : Option ℕ) (text : List ℕ) (status : Status) : Type 0 where
-  pub no_reads : reads ≡ []
-  pub no_files : files ≡ None
+-- the commands of the generated script were run on the machine of the generated topology, and the generated bundle was read
+pub record IsGenerated (number : ℕ) (text : List ℕ) (answer : SessionAnswer) : Type 0 where
   pub machine : Machine
   pub is_machine : topology.States (generated.topology_text number) machine
   pub stated : Stated
   pub is_script : States (limits_of machine) (generated.script_text number) stated
-  pub inner : List Read
-  pub held : AreHeld (bundle number) inner
+  pub reads : List Read
+  pub held : AreHeld (bundle number) reads
+  pub plays : Plays machine stated reads text answer
+
+-- no file of the outside is read
+pub record GenText (number : ℕ) (reads : List Read) (files : Option ℕ) (text : List ℕ) (status : Status) : Type 0 where
+  pub no_reads : reads ≡ []
+  pub none_fails : files ≡ None
   pub whole : List ℕ
   pub answer : SessionAnswer
-  pub plays : Plays machine stated inner whole answer
+  pub generated : IsGenerated number whole answer
   pub lines : text ≡ summary_line number whole
   pub is_status : status ≡ status_of answer
