@@ -30,7 +30,8 @@ IsUpdateRead tells held before now old new (Err (update.BadFile fault)) =
 IsUpdateRead tells held before now old new (Err update.NoMemory) = (now ≡ before) × (new ≡ old)
 
 -- the catalogue is that of the files that were read under these names
-pub record IsOfFiles (tells : Type 0) (names : List (List ℕ)) (holds : List ℕ → List ℕ) (contents : Contents) : Type 0 where
+pub record IsOfFiles (tells : Type 0) (names : List (List ℕ)) (holds : List ℕ → List ℕ) (contents : Contents)
+    : Type 0 where
   pub reads : List Read
   pub held : tells → AreHeld holds reads
   pub in_order : names_of reads ≡ names
@@ -48,7 +49,8 @@ pub record UnreadAt (tells : Type 0) (names : List (List ℕ)) (holds : List ℕ
   pub place : length reads ≡ file
 
 -- or it was read, and is refused
-pub record RefusedAt (tells : Type 0) (names : List (List ℕ)) (holds : List ℕ → List ℕ) (file : ℕ) (fault : FileFault) : Type 0 where
+pub record RefusedAt (tells : Type 0) (names : List (List ℕ)) (holds : List ℕ → List ℕ) (file : ℕ) (fault : FileFault)
+    : Type 0 where
   pub reads : List Read
   pub held : tells → AreHeld holds reads
   pub name : List ℕ
@@ -59,5 +61,6 @@ pub record RefusedAt (tells : Type 0) (names : List (List ℕ)) (holds : List �
 abbrev pub AreFilesRead : Type 0 → List (List ℕ) → (List ℕ → List ℕ) → ℕ → ℕ → Result Contents FilesAnswer → Type 0
 AreFilesRead tells names holds before now (Ok contents) = (now ≡ before) × IsOfFiles tells names holds contents
 AreFilesRead tells names holds before now (Err (files.Unread file)) = Rose before now × UnreadAt tells names holds file
-AreFilesRead tells names holds before now (Err (files.Refused file fault)) = (now ≡ before) × RefusedAt tells names holds file fault
+AreFilesRead tells names holds before now (Err (files.Refused file fault)) = (now ≡ before)
+    × RefusedAt tells names holds file fault
 AreFilesRead tells names holds before now (Err files.NoMemory) = now ≡ before

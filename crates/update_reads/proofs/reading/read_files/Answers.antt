@@ -15,21 +15,25 @@ names-init g c =
       still = λ tell. tell;
       place = refl;
       count = refl;
-      stands = subst (λ (contents : Contents). IsOfFiles tells [] holds contents) (sym c.new-catalog.ensures) (no_files tells c.args.names.now holds);
+      stands = subst (λ (contents : Contents). IsOfFiles tells [] holds contents) (sym c.new-catalog.ensures)
+          (no_files tells c.args.names.now holds);
     }
 
 pub names-preserved : goal.names-preserved
 names-preserved g c =
     let answer = c.in-Ok.ensures.answer in
     let at : slice_get c.args.names.now c.names.name-index ≡ Some c.name-item.result =
-    slice_get_read c.args.names.now (length c.args.names.now) c.names.name-index c.name-item.result refl (omega (arith, c.names-test.true)) c.name-item.is in
+    slice_get_read c.args.names.now (length c.args.names.now)
+        c.names.name-index c.name-item.result refl (omega (arith, c.names-test.true)) c.name-item.is in
     record {
       same = c.in-Ok.ensures.same ∙ c.names.invariant.same;
       still = λ tell. c.in-Ok.ensures.still (c.names.invariant.still tell);
       place = omega (arith, c.names.invariant.place);
       count = answer.0 ∙ c.names.invariant.count;
-      stands = one_more _ c.args.names.now _ _ _ answer.1.0 c.names.name-index c.name-item.result c.names.invariant.stands answer.1.3 answer.1.1
-          (λ tell. answer.1.2 (c.names.invariant.still tell) ∙ ap (λ (holds : List ℕ → List ℕ). holds c.name-item.result) c.names.invariant.same)
+      stands = one_more _ c.args.names.now _ _ _ answer.1.0 c.names.name-index c.name-item.result
+          c.names.invariant.stands answer.1.3 answer.1.1
+          (λ tell. answer.1.2 (c.names.invariant.still tell) ∙ ap (λ (holds : List ℕ →
+              List ℕ). holds c.name-item.result) c.names.invariant.same)
           at;
     }
 
@@ -40,8 +44,10 @@ pub returns-in-Err-clause-answer : goal.returns-in-Err-clause-answer
 returns-in-Err-clause-answer g c =
     let inside : c.names.name-index < length c.args.names.now = omega (arith, c.names-test.true) in
     let at : slice_get c.args.names.now c.names.name-index ≡ Some c.name-item.result =
-    slice_get_read c.args.names.now (length c.args.names.now) c.names.name-index c.name-item.result refl inside c.name-item.is in
-    stopped _ c.args.names.now _ _ _ c.names.name-index c.name-item.result c.names.invariant.place inside c.names.invariant.stands at _ _ _ _ _ _ _ c.in-Err.answer _ c.in_place.ensures c.names.invariant.still
+    slice_get_read c.args.names.now (length c.args.names.now)
+        c.names.name-index c.name-item.result refl inside c.name-item.is in
+    stopped _ c.args.names.now _ _ _ c.names.name-index c.name-item.result c.names.invariant.place inside
+        c.names.invariant.stands at _ _ _ _ _ _ _ c.in-Err.answer _ c.in_place.ensures c.names.invariant.still
     (ap (λ (holds : List ℕ → List ℕ). holds c.name-item.result) c.names.invariant.same)
     c.names.invariant.count
     c.in-Err.ensures.answer
