@@ -13,7 +13,8 @@ use Rattle.session_parts.specs.Loads.{mixed}
 
 module _ {A : Type 0} where
   -- one place more
-  pub map_more : (each : ℕ → A) (n : ℕ) (items new : List A) (x : A) → items ≡ map each (range_with_len 0 n) → new ≡ items ++ x ∷ [] → x ≡ each n → new ≡ map each (range_with_len 0 (n + 1))
+  pub map_more : (each : ℕ → A) (n : ℕ) (items new : List A) (x : A) → items ≡ map each (range_with_len 0 n) →
+      new ≡ items ++ x ∷ [] → x ≡ each n → new ≡ map each (range_with_len 0 (n + 1))
   map_more each n items new x so_far pushed is =
       pushed ∙ ap (λ (l : List A). l ++ x ∷ []) so_far ∙ ap (λ (y : A). map each (range_with_len 0 n) ++ y ∷ []) is
       ∙ sym (map-range_with_len_more each 0 n n (omega arith))
@@ -27,18 +28,22 @@ module _ {A : Type 0} where
   pub table_past : (places : ℕ) (each : ℕ → A) (behind : A) (k : ℕ) → places ≤ k → table places each behind k ≡ behind
   table_past places each behind k past = ap (λ (b : Bool). if b then each k else behind) (le-ltb k places past)
 
-  place_is : (each : ℕ → A) (n : ℕ) (behind : A) (k : ℕ) → unwrap_or (slice_get (map each (range_with_len 0 n)) k) behind ≡ table n each behind k
+  place_is : (each : ℕ → A) (n : ℕ) (behind : A) (k : ℕ) →
+      unwrap_or (slice_get (map each (range_with_len 0 n)) k) behind ≡ table n each behind k
   place_is each n behind k =
       unwrap_or-slice_get (map each (range_with_len 0 n)) k behind
       ∙ elim (cases_lt k n) [
-        | inl below ↦ get_or-map-range_with_len each 0 n k k behind below (omega arith) ∙ sym (table_in n each behind k below)
+        | inl below ↦ get_or-map-range_with_len each 0 n k k behind below (omega arith)
+            ∙ sym (table_in n each behind k below)
         | inr past ↦
-            get_or_past (map each (range_with_len 0 n)) k behind (omega (arith, past, length-map-range_with_len each 0 n))
+            get_or_past (map each (range_with_len 0 n)) k behind
+            (omega (arith, past, length-map-range_with_len each 0 n))
             ∙ sym (table_past n each behind k past)
       ]
 
   -- a list of so many places, with a value behind them
-  pub table_is : (each : ℕ → A) (n : ℕ) (behind : A) (items : List A) → items ≡ map each (range_with_len 0 n) → (λ (k : ℕ). unwrap_or (slice_get items k) behind) ≡ table n each behind
+  pub table_is : (each : ℕ → A) (n : ℕ) (behind : A) (items : List A) → items ≡ map each (range_with_len 0 n) →
+      (λ (k : ℕ). unwrap_or (slice_get items k) behind) ≡ table n each behind
   table_is each n behind items so_far =
       let as_table : List A → ℕ → A = λ l k. unwrap_or (slice_get l k) behind in
       ap as_table so_far ∙ fun_ext (λ k. place_is each n behind k)
@@ -62,7 +67,8 @@ module _ {A : Type 0} where
 
   mixed_more_at : (new old : ℕ → A) (n k : ℕ) → put (mixed new old n) n (new n) k ≡ mixed new old (n + 1) k
   mixed_more_at new old n k = elim (cases_eq k n) [
-    | inl same ↦ put_same (mixed new old n) n k (new n) same ∙ sym (ap new same) ∙ sym (mixed_in new old (n + 1) k (omega (arith, same)))
+    | inl same ↦ put_same (mixed new old n) n k (new n) same ∙ sym (ap new same)
+        ∙ sym (mixed_in new old (n + 1) k (omega (arith, same)))
     | inr other ↦
         put_other (mixed new old n) n k (new n) other
         ∙ elim (cases_lt k n) [

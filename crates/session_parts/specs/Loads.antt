@@ -30,7 +30,8 @@ abbrev pub with_patches : State → Patches → State
 with_patches state patches = record state { patches = patches }
 
 -- Each offer was put into the region, and nothing else changed; without what was put the region is as before.
-pub record IsPut (setting : Setting) (entries : List Entry) (offers : List (Option ℕ)) (old new : State) (places : List (Option PatchId)) : Type 0 where
+pub record IsPut (setting : Setting) (entries : List Entry) (offers : List (Option ℕ)) (old new : State)
+    (places : List (Option PatchId)) : Type 0 where
   pub puts : Puts
   pub put : puts_of setting old entries offers ≡ Ok puts
   pub after : new ≡ with_patches old puts.patches
@@ -60,4 +61,5 @@ new_or_old (Some new) old = Some new
 -- what so many groups cache after that
 abbrev pub kept_by_plan : Plan → List (Option PatchId) → List ℕ → (ℕ → Option ℕ) → ℕ → ℕ → Option ℕ
 kept_by_plan plan places revs cached groups =
-    mixed (λ g. new_or_old (written_place (plan.offer g) (slice_index revs g) (place_at places g)) (cached g)) cached groups
+    mixed (λ g. new_or_old (written_place (plan.offer g) (slice_index revs g) (place_at places g)) (cached g)) cached
+    groups

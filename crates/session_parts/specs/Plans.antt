@@ -12,12 +12,14 @@ use Rattle.session_steps.specs.State.{Setting, State, machine_of}
 use Rattle.session_steps.specs.Offers.{kind_of}
 
 -- those of so many threads
-pub record AreByThread (setting : Setting) (state : State) (threads : ℕ) (kinds : List Kind) (groups : List ℕ) : Type 0 where
+pub record AreByThread (setting : Setting) (state : State) (threads : ℕ) (kinds : List Kind)
+    (groups : List ℕ) : Type 0 where
   pub kinds_are : kinds ≡ map (λ t. kind_of (state.hardware.thread t)) (range_with_len 0 threads)
   pub groups_are : groups ≡ map (machine_of setting).group (range_with_len 0 threads)
 
 -- those of so many groups
-pub record AreByGroup (setting : Setting) (state : State) (groups : ℕ) (primaries : List ℕ) (refusals : List Bool) (revisions : List ℕ) : Type 0 where
+pub record AreByGroup (setting : Setting) (state : State) (groups : ℕ) (primaries : List ℕ) (refusals : List Bool)
+    (revisions : List ℕ) : Type 0 where
   pub primaries_are : primaries ≡ map (primary setting.machine.stated) (range_with_len 0 groups)
   pub refusals_are : refusals ≡ map state.hardware.refuses (range_with_len 0 groups)
   pub revisions_are : revisions ≡ map state.hardware.rev (range_with_len 0 groups)

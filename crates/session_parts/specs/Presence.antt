@@ -6,7 +6,8 @@ use Rattle.session_steps.specs.State.{Setting, State, machine_of, core_of, takes
 -- the primary of a group that takes part
 abbrev pub is_primary : Setting → State → ℕ → Bool
 is_primary setting state t =
-    (t == primary setting.machine.stated ((machine_of setting).group t)) && takes_part setting state ((machine_of setting).group t)
+    (t == primary setting.machine.stated ((machine_of setting).group t)) && takes_part setting state
+    ((machine_of setting).group t)
 
 -- the lowest thread of a core that does
 abbrev pub is_lead : Setting → State → ℕ → Bool

@@ -10,8 +10,17 @@ use Rattle.group_offers.proofs.firmware_cores.Goals as goal
 pub push-requires : goal.push-requires
 push-requires c =
     let f : ℕ → Option CoreFacts = λ group. Some (facts_of_group c.args.topology.now group) in
-    let count : length c.cores.cores.items ≡ c.cores.group = ap length c.cores.invariant.so_far ∙ length-map-range_with_len f 0 c.cores.group in
-    (omega arith, omega (arith, count, c.cores-test.true, c.groups-group-end.ensures.value, c.groups-group-end.ensures.few))
+    let count : length c.cores.cores.items ≡ c.cores.group = ap length c.cores.invariant.so_far
+    ∙ length-map-range_with_len f 0 c.cores.group in (
+      omega arith,
+      omega (
+        arith,
+        count,
+        c.cores-test.true,
+        c.groups-group-end.ensures.value,
+        c.groups-group-end.ensures.few,
+      ),
+    )
 
 pub cores-preserved : goal.cores-preserved
 cores-preserved c =
@@ -21,6 +30,8 @@ cores-preserved c =
     c.core_facts.ensures ∙ ap (λ (facts : GroupFacts). facts_at machine c.cores.group facts.rev) c.facts-rev.ensures in
     record {
       within = omega (arith, c.cores-test.true, c.groups-group-end.ensures.value);
-      so_far = c.push.ensures.items ∙ ap (λ (l : List (Option CoreFacts)). l ++ Some c.core_facts.result ∷ []) c.cores.invariant.so_far
-          ∙ ap (λ (x : CoreFacts). map f (range_with_len 0 c.cores.group) ++ Some x ∷ []) here ∙ sym (map-range_with_len_more f 0 c.cores.group c.cores.group (omega arith));
+      so_far = c.push.ensures.items ∙ ap (λ (l : List (Option CoreFacts)). l ++ Some c.core_facts.result ∷ [])
+          c.cores.invariant.so_far
+          ∙ ap (λ (x : CoreFacts). map f (range_with_len 0 c.cores.group) ++ Some x ∷ []) here
+          ∙ sym (map-range_with_len_more f 0 c.cores.group c.cores.group (omega arith));
     }

@@ -13,7 +13,8 @@ returns c =
     let entries = c.args.catalog.now.entries in
     let core : ℕ → Option CoreFacts = λ group. Some (facts_of_group machine group) in
     let count : ℕ = group_count machine.stated.cores in
-    let are = subst (λ (cores : List (Option CoreFacts)). AreOffers entries cores false c.offers.result.items) (c.as_slice.ensures.value ∙ c.firmware_cores-cores.ensures) c.offers.ensures in
+    let are = subst (λ (cores : List (Option CoreFacts)). AreOffers entries cores false c.offers.result.items)
+    (c.as_slice.ensures.value ∙ c.firmware_cores-cores.ensures) c.offers.ensures in
     record {
       offers = record {
         count = offers_count entries core count false c.offers.result.items are;

@@ -11,12 +11,15 @@ pub groups-preserved-in-None : goal.groups-preserved-in-None
 groups-preserved-in-None c =
     let old = cached_of c.args.cache.now in
     let plan = plan_of c.args.plan.now in
-    let new : ℕ → Option ℕ = λ g. new_or_old (written_place (plan.offer g) (slice_index c.args.revs.now g) (place_at c.args.places.now g)) (old g) in
+    let new : ℕ → Option ℕ = λ g. new_or_old (written_place (plan.offer g) (slice_index c.args.revs.now g)
+    (place_at c.args.places.now g)) (old g) in
     let g = c.groups.g in
     let none : None ≡ written_place (plan.offer g) (slice_index c.args.revs.now g) (place_at c.args.places.now g) =
-    c.in-None.ensures ∙ ap (λ (offer : Option ℕ). written_place offer (slice_index c.args.revs.now g) (place_at c.args.places.now g)) c.offer_of.ensures in
+    c.in-None.ensures ∙ ap (λ (offer : Option ℕ). written_place offer (slice_index c.args.revs.now g)
+    (place_at c.args.places.now g)) c.offer_of.ensures in
     record {
-      kept = c.groups.invariant.kept ∙ mixed_same new old g (ap (λ (place : Option ℕ). new_or_old place (old g)) (sym none));
+      kept = c.groups.invariant.kept ∙ mixed_same new old g
+          (ap (λ (place : Option ℕ). new_or_old place (old g)) (sym none));
       size = c.groups.invariant.size;
     }
 
@@ -24,10 +27,13 @@ pub groups-preserved : goal.groups-preserved
 groups-preserved c =
     let old = cached_of c.args.cache.now in
     let plan = plan_of c.args.plan.now in
-    let new : ℕ → Option ℕ = λ g. new_or_old (written_place (plan.offer g) (slice_index c.args.revs.now g) (place_at c.args.places.now g)) (old g) in
+    let new : ℕ → Option ℕ = λ g. new_or_old (written_place (plan.offer g) (slice_index c.args.revs.now g)
+    (place_at c.args.places.now g)) (old g) in
     let g = c.groups.g in
-    let some : Some c.in-Some.id.0 ≡ written_place (plan.offer g) (slice_index c.args.revs.now g) (place_at c.args.places.now g) =
-    c.in-Some.ensures ∙ ap (λ (offer : Option ℕ). written_place offer (slice_index c.args.revs.now g) (place_at c.args.places.now g)) c.offer_of.ensures in
+    let some : Some c.in-Some.id.0 ≡ written_place (plan.offer g) (slice_index c.args.revs.now g)
+    (place_at c.args.places.now g) =
+    c.in-Some.ensures ∙ ap (λ (offer : Option ℕ). written_place offer (slice_index c.args.revs.now g)
+    (place_at c.args.places.now g)) c.offer_of.ensures in
     record {
       kept = c.keep.ensures.kept ∙ ap (λ (f : ℕ → Option ℕ). put f g (Some c.in-Some.id.0)) c.groups.invariant.kept
           ∙ ap (λ (place : Option ℕ). put (mixed new old g) g (new_or_old place (old g))) some ∙ mixed_more new old g;

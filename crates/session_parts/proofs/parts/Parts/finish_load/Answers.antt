@@ -13,8 +13,12 @@ use Rattle.session_parts.proofs.parts.Parts.finish_load.Goals as goal
 pub returns-clause-kept : goal.returns-clause-kept
 returns-clause-kept c = λ entries offers before outcome put is_plan is_revs.
     let old = c.args.self.now in
-    let groups : groups_of old.cache ≡ (machine_of (setting_of old)).groups = old.groups ∙ ap (λ (s : Setting). s.groups) old.states in
-    finished (setting_of old) entries offers before (state_of old) c.args.places.now put (plan_of c.args.plan.now) outcome c.args.revs.now _ is_plan is_revs c.requires.revs
+    let groups : groups_of old.cache ≡ (machine_of (setting_of old)).groups = old.groups
+    ∙ ap (λ (s : Setting). s.groups) old.states in
+    finished (setting_of old) entries offers before (state_of old) c.args.places.now put
+    (plan_of c.args.plan.now) outcome c.args.revs.now _ is_plan is_revs c.requires.revs
     c.set_revisions.ensures.set
-    (c.keep_written.ensures.kept ∙ ap (λ (n : ℕ). kept_by_plan (plan_of c.args.plan.now) c.args.places.now c.args.revs.now (cached_of old.cache) n) groups)
-    (c.sweep.ensures.swept ∙ ap (λ (n : ℕ). swept n (cached_of c.keep_written.new.cache) (patches_of old.pool)) (c.keep_written.ensures.size ∙ groups))
+    (c.keep_written.ensures.kept ∙ ap (λ (n : ℕ). kept_by_plan
+    (plan_of c.args.plan.now) c.args.places.now c.args.revs.now (cached_of old.cache) n) groups)
+    (c.sweep.ensures.swept ∙ ap (λ (n : ℕ). swept n (cached_of c.keep_written.new.cache) (patches_of old.pool))
+    (c.keep_written.ensures.size ∙ groups))

@@ -11,7 +11,8 @@ pub returns-then-t-primary_of : goal.returns-then-t-primary_of
 returns-then-t-primary_of c =
     let setting = setting_of c.args.self.now in
     let state = state_of c.args.self.now in
-    let group : c.group_of-group.result ≡ (machine_of setting).group c.args.t = c.group_of-group.ensures.value ∙ ap (λ (s : Setting). s.group c.args.t) c.args.self.now.states in
+    let group : c.group_of-group.result ≡ (machine_of setting).group c.args.t = c.group_of-group.ensures.value
+    ∙ ap (λ (s : Setting). s.group c.args.t) c.args.self.now.states in
     let first : (c.args.t == primary setting.machine.stated ((machine_of setting).group c.args.t)) ≡ true =
     eq-eqb _ _ (c.if-t-primary_of.true ∙ c.primary_of.ensures ∙ ap (primary setting.machine.stated) group) in
     c.takes_part.ensures ∙ ap (takes_part setting state) group
@@ -21,8 +22,10 @@ pub returns-else-t-primary_of : goal.returns-else-t-primary_of
 returns-else-t-primary_of c =
     let setting = setting_of c.args.self.now in
     let state = state_of c.args.self.now in
-    let group : c.group_of-group.result ≡ (machine_of setting).group c.args.t = c.group_of-group.ensures.value ∙ ap (λ (s : Setting). s.group c.args.t) c.args.self.now.states in
-    let at : c.primary_of.result ≡ primary setting.machine.stated ((machine_of setting).group c.args.t) = c.primary_of.ensures ∙ ap (primary setting.machine.stated) group in
+    let group : c.group_of-group.result ≡ (machine_of setting).group c.args.t = c.group_of-group.ensures.value
+    ∙ ap (λ (s : Setting). s.group c.args.t) c.args.self.now.states in
+    let at : c.primary_of.result ≡ primary setting.machine.stated ((machine_of setting).group c.args.t) =
+    c.primary_of.ensures ∙ ap (primary setting.machine.stated) group in
     let first : (c.args.t == primary setting.machine.stated ((machine_of setting).group c.args.t)) ≡ false =
     ne_eqb _ _ (λ same. c.if-t-primary_of.false (same ∙ sym at)) in
     ne_eqb c.args.t c.primary_of.result c.if-t-primary_of.false

@@ -12,16 +12,32 @@ pub returns-clause-tables : goal.returns-clause-tables
 returns-clause-tables c =
     let setting = setting_of c.args.self.now in
     let state = state_of c.args.self.now in
-    let offers = map_length (revision_put state.patches c.args.places.now) _ c.offered_revisions.result.items c.offered_revisions.ensures in
-    tables_fit setting state _ (record { threads_are = c.threads.ensures.value; by_thread = c.by_thread-kind.ensures; by_group = c.by_group-primary.ensures; patience_is = refl }) c.threads.ensures.partition (offers ∙ c.requires.groups)
+    let offers = map_length (revision_put state.patches c.args.places.now) _ c.offered_revisions.result.items
+    c.offered_revisions.ensures in
+    tables_fit setting state _ (record {
+      threads_are = c.threads.ensures.value;
+      by_thread =
+          c.by_thread-kind.ensures;
+      by_group = c.by_group-primary.ensures;
+      patience_is = refl;
+    })
+    c.threads.ensures.partition (offers ∙ c.requires.groups)
 
 pub returns-clause-plan : goal.returns-clause-plan
 returns-clause-plan c = λ entries offers before put.
     let setting = setting_of c.args.self.now in
     let state = state_of c.args.self.now in
     let places = c.args.places.now in
-    plan_is setting state _ (record { threads_are = c.threads.ensures.value; by_thread = c.by_thread-kind.ensures; by_group = c.by_group-primary.ensures; patience_is = refl }) put.puts offers
-    (offered_is put.puts offers state.patches places (machine_of setting).groups c.offered_revisions.result.items c.offered_revisions.ensures c.requires.groups (ap (λ (s : State). s.patches) put.after) put.places_are)
+    plan_is setting state _ (record {
+      threads_are = c.threads.ensures.value;
+      by_thread =
+          c.by_thread-kind.ensures;
+      by_group = c.by_group-primary.ensures;
+      patience_is = refl;
+    }) put.puts offers
+    (offered_is put.puts offers state.patches places
+    (machine_of setting).groups c.offered_revisions.result.items c.offered_revisions.ensures c.requires.groups
+    (ap (λ (s : State). s.patches) put.after) put.places_are)
     ∙ plan_before setting entries offers before state places put
 
 pub returns-clause-sound : goal.returns-clause-sound

@@ -10,15 +10,22 @@ use Rattle.session_parts.proofs.parts.Parts.present_cores.Goals as goal
 
 pub push-requires : goal.push-requires
 push-requires c =
-    let core : ℕ → Option CoreFacts = λ g. core_where (takes_part (setting_of c.args.self.now) (state_of c.args.self.now) g) (facts_now (setting_of c.args.self.now) (state_of c.args.self.now) g) in
-    let count : length c.groups.cores.items ≡ c.groups.g = ap length c.groups.invariant.so_far ∙ length-map-range_with_len core 0 c.groups.g in
+    let core : ℕ → Option CoreFacts = λ g. core_where
+    (takes_part (setting_of c.args.self.now) (state_of c.args.self.now) g)
+    (facts_now (setting_of c.args.self.now) (state_of c.args.self.now) g) in
+    let count : length c.groups.cores.items ≡ c.groups.g = ap length c.groups.invariant.so_far
+    ∙ length-map-range_with_len core 0 c.groups.g in
     (omega arith, omega (arith, count, c.groups-test.true, c.groups-g-end.ensures.value, c.groups-g-end.ensures.few))
 
 pub groups-preserved : goal.groups-preserved
 groups-preserved c =
-    let core : ℕ → Option CoreFacts = λ g. core_where (takes_part (setting_of c.args.self.now) (state_of c.args.self.now) g) (facts_now (setting_of c.args.self.now) (state_of c.args.self.now) g) in
+    let core : ℕ → Option CoreFacts = λ g. core_where
+    (takes_part (setting_of c.args.self.now) (state_of c.args.self.now) g)
+    (facts_now (setting_of c.args.self.now) (state_of c.args.self.now) g) in
     record {
       within = omega (arith, c.groups-test.true, c.groups-g-end.ensures.value);
-      so_far = c.push.ensures.items ∙ ap (λ (l : List (Option CoreFacts)). l ++ c.present_core.result ∷ []) c.groups.invariant.so_far
-          ∙ ap (λ (x : Option CoreFacts). map core (range_with_len 0 c.groups.g) ++ x ∷ []) c.present_core.ensures ∙ sym (map-range_with_len_more core 0 c.groups.g c.groups.g (omega arith));
+      so_far = c.push.ensures.items ∙ ap (λ (l : List (Option CoreFacts)). l ++ c.present_core.result ∷ [])
+          c.groups.invariant.so_far
+          ∙ ap (λ (x : Option CoreFacts). map core (range_with_len 0 c.groups.g) ++ x ∷ []) c.present_core.ensures
+          ∙ sym (map-range_with_len_more core 0 c.groups.g c.groups.g (omega arith));
     }

@@ -10,5 +10,6 @@ use Rattle.session_parts.proofs.parts.Parts.present_cores.Given as goal
 abbrev pub invariant-groups : goal.invariant-groups
 invariant-groups l = record {
   within : l.g ≤ group_count (setting_of l.self).machine.stated.cores;
-  so_far : l.cores.items ≡ map (λ g. core_where (takes_part (setting_of l.self) (state_of l.self) g) (facts_now (setting_of l.self) (state_of l.self) g)) (range_with_len 0 l.g);
+  so_far : l.cores.items ≡ map (λ g. core_where (takes_part (setting_of l.self) (state_of l.self) g)
+      (facts_now (setting_of l.self) (state_of l.self) g)) (range_with_len 0 l.g);
 }
