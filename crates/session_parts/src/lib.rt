@@ -13,3 +13,6 @@ mod presence;
 mod rows;
 
 pub use parts::Parts;
+
+#[cfg(test)]
+mod tests;
