@@ -77,7 +77,7 @@ fn plan() -> Plan {
 }
 
 fn schedule(alloc: Global, is_storm: bool, number: u64) -> Result<Vec<Beat>, NoMemory> {
-    let mut beats = Vec::new(alloc);
+    let mut beats = Vec::with_capacity(alloc, if is_storm { number as usize } else { 1 })?;
     if !is_storm {
         beats.push(Beat::Rounds(60))?;
         return Ok(beats);

@@ -1,4 +1,5 @@
 pub mod Decimals
+pub mod Polling
 pub mod Counting
 pub mod Changes
 pub mod Small

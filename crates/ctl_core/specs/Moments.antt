@@ -1,11 +1,12 @@
 -- A moment of a rendezvous, seen as its lists, and the moment of the definition that they stand for.
-use Rattle.std.specs.Prelude.{◌≡◌, ℕ, ◌<◌, ◌^◌, Bool, true, false, not, ◌&&◌, List, length, slice_get, unwrap_or, count_by, Option, Some, None}
+use Rattle.std.specs.Prelude.{◌≡◌, ◌==◌, ℕ, ◌<◌, ◌^◌, Bool, true, false, not, ◌&&◌, List, length, slice_get, unwrap_or, count_by, Option, Some, None}
 use Rattle.std.specs.List.{find}
 use Rattle.rendezvous_steps.specs.declared.ends.End.{End}
-use Rattle.rendezvous_steps.specs.declared.steps.Phase.TheVariants.{Nothing}
+use Rattle.rendezvous_steps.specs.declared.steps.Phase.{Phase}
+use Rattle.rendezvous_steps.specs.declared.steps.Phase.TheVariants.{Waiting, SiblingWait, Nothing}
 use Rattle.rendezvous_steps.specs.declared.steps.Local.{Local}
 use Rattle.rendezvous_steps.specs.declared.operations.Word.{Word}
-use Rattle.rendezvous_steps.specs.declared.operations.Word.TheVariants.{Mode, Ctrl, Nmi, Rev}
+use Rattle.rendezvous_steps.specs.declared.operations.Word.TheVariants.{Decide, Mode, Ctrl, Nmi, Rev}
 use Rattle.rendezvous_steps.specs.declared.steps.How.TheVariants.{Step}
 use Rattle.rendezvous_steps.specs.declared.items.What.{What}
 use Rattle.rendezvous_steps.specs.declared.items.What.TheVariants.{Poll}
@@ -73,6 +74,12 @@ pub record Fits (plan : Plan) (s : State) : Type 0 where
 abbrev pub is_poll : What → Bool
 is_poll Poll = true
 is_poll item = false
+
+-- a thread in this phase waits for the decision or for its release, and that is not there
+abbrev pub waits : Phase → (Word → ℕ) → ℕ → Bool
+waits Waiting words t = words Decide == 0
+waits SiblingWait words t = words (Ctrl t) == 0
+waits phase words t = false
 
 -- the thread is unfinished and its next step is no Poll
 abbrev pub is_ready : Plan → Running → ℕ → Bool

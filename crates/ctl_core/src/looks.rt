@@ -12,18 +12,21 @@ ghost use Rattle.ctl_core.specs.Moments.{unfinished_in, unfinished_from, end_in,
 use ctl_words::{PlainWords, Plan};
 use rendezvous_steps::{End, Kind, ThreadResult, Word};
 
+#[inline(always)]
 pub fn has_left(words: &PlainWords, thread: u16) -> bool
     ensures { result ≡ shows_left (word_of words.now) thread }
 {
     words.get(Word::Mode(thread)) >= 8
 }
 
+#[inline(always)]
 pub fn has_halted(words: &PlainWords, thread: u16) -> bool
     ensures { result ≡ shows_halted (word_of words.now) thread }
 {
     words.get(Word::Ctrl(thread)) == 3
 }
 
+#[inline(always)]
 pub fn is_withdrawn(words: &PlainWords, plan: &Plan, thread: u16) -> bool
     ensures { result ≡ shows_withdrawn (plan_of plan.now) (word_of words.now) thread }
 {
@@ -38,6 +41,7 @@ pub fn is_over(words: &PlainWords, plan: &Plan, thread: u16) -> bool
 }
 
 /// Whether it left, halted, was withdrawn, or takes no part.
+#[inline(always)]
 pub fn is_finished(words: &PlainWords, plan: &Plan, thread: u16) -> bool
     ensures { result ≡ shows_finished (plan_of plan.now) (word_of words.now) thread }
 {
@@ -132,6 +136,7 @@ pub fn end(words: &PlainWords, plan: &Plan, thread: u16) -> End
 }
 
 /// The number of unfinished threads where one of them was finished or not, and now is or is not.
+#[inline(always)]
 pub fn recounted(count: u16, was_finished: bool, is_finished: bool) -> u16
     requires room { count + cond was_finished 1 0 < 2 ^ 16 }
     requires some { cond is_finished 1 0 ≤ count + cond was_finished 1 0 }
@@ -145,6 +150,7 @@ pub fn recounted(count: u16, was_finished: bool, is_finished: bool) -> u16
 }
 
 /// The thread that a word is one of.
+#[inline(always)]
 pub fn owner(word: Word) -> Option<u16>
     ensures { result ≡ owner word }
 {

@@ -12,7 +12,7 @@ ghost use Rattle.rendezvous_model.specs.RoundStep.{thread_of};
 ghost use Rattle.ctl_words.specs.Lists.{has_word, word_of};
 ghost use Rattle.ctl_words.specs.Plans.{plan_of, IsSound};
 ghost use Rattle.std.specs.List.{range_with_len};
-ghost use Rattle.ctl_core.specs.Moments.{running_of, Fits, owner, unfinished_from, is_poll, is_ready, ready_from, end_in};
+ghost use Rattle.ctl_core.specs.Moments.{running_of, Fits, owner, unfinished_from, is_poll, waits, is_ready, ready_from, end_in};
 
 use crate::looks;
 use arrayvec::ArrayVec;
@@ -194,9 +194,55 @@ impl Moment {
         }
     }
 
-    /// The thread does its operation. Where it has none, a latched NMI comes through once it has left.
+    /// A step. Most steps of a long wait are polls, which change a count and no more.
     #[inline(always)]
     fn step(&mut self, plan: &Plan, thread: u16, how: How) -> What
+        requires sound { IsSound plan.now }
+        requires fits { Fits (plan_of plan.now) self.old }
+        requires in_range { thread < plan.now.threads }
+        ensures item { result ≡ (steps (plan_of plan.now) thread how (running_of self.old)).1 }
+        ensures state { running_of self.new ≡ (steps (plan_of plan.now) thread how (running_of self.old)).0 }
+        ensures fits { Fits (plan_of plan.now) self.new }
+    {
+        match how {
+            How::Step if self.waits(thread) => self.poll(plan, thread),
+            _ => self.act(plan, thread, how),
+        }
+    }
+
+    /// Whether the thread waits for the decision or for its release, and that is not there.
+    #[inline(always)]
+    fn waits(&self, thread: u16) -> bool
+        ensures { result ≡ waits ((running_of self.now).locals thread).phase (running_of self.now).words thread }
+    {
+        match self.local(thread).phase {
+            Phase::Waiting => self.words.get(Word::Decide) == 0,
+            Phase::SiblingWait => self.words.get(Word::Ctrl(thread)) == 0,
+            _ => false,
+        }
+    }
+
+    /// A poll of a thread that waits for what is not there.
+    #[inline(always)]
+    fn poll(&mut self, plan: &Plan, thread: u16) -> What
+        requires waits { IsTrue (waits ((running_of self.old).locals thread).phase (running_of self.old).words thread) }
+        requires fits { Fits (plan_of plan.now) self.old }
+        requires in_range { thread < plan.now.threads }
+        ensures item { result ≡ (steps (plan_of plan.now) thread StepHow (running_of self.old)).1 }
+        ensures state { running_of self.new ≡ (steps (plan_of plan.now) thread StepHow (running_of self.old)).0 }
+        ensures fits { Fits (plan_of plan.now) self.new }
+    {
+        let local = self.local(thread);
+        let polled = Local {
+            polls: local.polls.saturating_add(1),
+            ..local
+        };
+        self.set_local(thread, polled);
+        What::Poll
+    }
+
+    /// The thread does its operation. Where it has none, a latched NMI comes through once it has left.
+    fn act(&mut self, plan: &Plan, thread: u16, how: How) -> What
         requires sound { IsSound plan.now }
         requires fits { Fits (plan_of plan.now) self.old }
         requires in_range { thread < plan.now.threads }
