@@ -177,11 +177,11 @@ impl Moment {
         match event {
             Event::Step(thread) => Item {
                 thread,
-                what: self.step(plan, thread, How::Step),
+                what: self.step(plan, thread),
             },
             Event::Timeout(thread) => Item {
                 thread,
-                what: self.step(plan, thread, How::Timeout),
+                what: self.act_apart(plan, thread, How::Timeout),
             },
             Event::Nmi(thread) => Item {
                 thread,
@@ -194,19 +194,20 @@ impl Moment {
         }
     }
 
-    /// A step. Most steps of a long wait are polls, which change a count and no more.
+    /// A step that is no timeout. Most steps of a long wait are polls, which change a count and no more.
     #[inline(always)]
-    fn step(&mut self, plan: &Plan, thread: u16, how: How) -> What
+    fn step(&mut self, plan: &Plan, thread: u16) -> What
         requires sound { IsSound plan.now }
         requires fits { Fits (plan_of plan.now) self.old }
         requires in_range { thread < plan.now.threads }
-        ensures item { result ≡ (steps (plan_of plan.now) thread how (running_of self.old)).1 }
-        ensures state { running_of self.new ≡ (steps (plan_of plan.now) thread how (running_of self.old)).0 }
+        ensures item { result ≡ (steps (plan_of plan.now) thread StepHow (running_of self.old)).1 }
+        ensures state { running_of self.new ≡ (steps (plan_of plan.now) thread StepHow (running_of self.old)).0 }
         ensures fits { Fits (plan_of plan.now) self.new }
     {
-        match how {
-            How::Step if self.waits(thread) => self.poll(plan, thread),
-            _ => self.act(plan, thread, how),
+        if self.waits(thread) {
+            self.poll(plan, thread)
+        } else {
+            self.act(plan, thread, How::Step)
         }
     }
 
@@ -241,7 +242,21 @@ impl Moment {
         What::Poll
     }
 
+    /// A step of events that are rare. It is kept apart, so that the step of a round is laid into its event alone.
+    #[inline(never)]
+    fn act_apart(&mut self, plan: &Plan, thread: u16, how: How) -> What
+        requires sound { IsSound plan.now }
+        requires fits { Fits (plan_of plan.now) self.old }
+        requires in_range { thread < plan.now.threads }
+        ensures item { result ≡ (steps (plan_of plan.now) thread how (running_of self.old)).1 }
+        ensures state { running_of self.new ≡ (steps (plan_of plan.now) thread how (running_of self.old)).0 }
+        ensures fits { Fits (plan_of plan.now) self.new }
+    {
+        self.act(plan, thread, how)
+    }
+
     /// The thread does its operation. Where it has none, a latched NMI comes through once it has left.
+    #[inline(always)]
     fn act(&mut self, plan: &Plan, thread: u16, how: How) -> What
         requires sound { IsSound plan.now }
         requires fits { Fits (plan_of plan.now) self.old }
@@ -298,7 +313,7 @@ impl Moment {
         ensures fits { Fits (plan_of plan.now) self.new }
     {
         if self.is_held(plan, thread) {
-            self.step(plan, thread, How::Step)
+            self.act_apart(plan, thread, How::Step)
         } else {
             self.run_outside(plan, thread, plan.kind_of(thread))
         }
@@ -372,7 +387,7 @@ impl Moment {
         ensures fits { Fits (plan_of plan.now) self.new }
     {
         if self.is_outside(thread) {
-            self.step(plan, thread, How::Nmi)
+            self.act_apart(plan, thread, How::Nmi)
         } else if self.is_over(plan, thread) {
             self.ordinary(plan, thread)
         } else {

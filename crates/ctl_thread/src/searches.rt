@@ -1,6 +1,7 @@
 //! Threads in ascending order.
 
-ghost use Rattle.std.specs.Prelude.{◌≡◌, ℕ, Option};
+ghost use Rattle.std.specs.Prelude.{◌≡◌, ◌==◌, ◌+◌, ◌<◌, ◌≤◌, ℕ, Option, Some, false, MatchOption};
+ghost use Rattle.std.specs.List.{list_any};
 ghost use Rattle.rendezvous_steps.specs.Plan.{is_sibling, offline_from, sibling_from};
 ghost use Rattle.ctl_words.specs.Plans.{plan_of, IsSound};
 
@@ -20,18 +21,73 @@ pub fn first_offline(plan: &Plan, start: u32) -> Option<u16>
     None
 }
 
-/// The first other thread of `of`'s group from `start` on that takes part.
+/// The first other thread of `of`'s group from `start` on that takes part. Where 16 threads are of other groups, they are
+/// passed over at once.
 #[tactic(auto, using(crate::proofs::Ascending::sibling_search))]
 pub fn first_sibling(plan: &Plan, of: u16, start: u32) -> Option<u16>
     ensures { result ≡ sibling_from (plan_of plan.now) of start }
 {
-    for thread in start..u32::from(plan.threads) {
+    let threads = plan.threads;
+    let mut from = start;
+    while from < u32::from(threads) {
+        let found = sibling_near(plan, of, from);
+        if found.is_some() {
+            return found;
+        }
+        from += 16;
+    }
+    None
+}
+
+/// The first sibling of `of` that is one of 16 threads.
+fn sibling_near(plan: &Plan, of: u16, from: u32) -> Option<u16>
+    requires { from < plan.now.threads }
+    ensures { MatchOption result (sibling_from (plan_of plan.now) of from ≡ sibling_from (plan_of plan.now) of (from + 16)) (λ sibling. sibling_from (plan_of plan.now) of from ≡ Some sibling) }
+{
+    if has_group_near(plan, plan.group_of(of), from) {
+        sibling_among(plan, of, from)
+    } else {
+        None
+    }
+}
+
+/// The same, thread by thread.
+#[tactic(auto, using(crate::proofs::Ascending::sibling_search))]
+fn sibling_among(plan: &Plan, of: u16, from: u32) -> Option<u16>
+    requires { from < plan.now.threads }
+    ensures { MatchOption result (sibling_from (plan_of plan.now) of from ≡ sibling_from (plan_of plan.now) of (from + 16)) (λ sibling. sibling_from (plan_of plan.now) of from ≡ Some sibling) }
+{
+    for thread in from..u32::from(plan.threads).min(from + 16) {
         let thread = thread as u16;
         if is_sibling(plan, of, thread) {
             return Some(thread);
         }
     }
     None
+}
+
+/// Whether one of 16 threads may be of the group. Near the last thread the answer is that it may.
+fn has_group_near(plan: &Plan, group: u16, from: u32) -> bool
+    requires { from < plan.now.threads }
+    ensures { result ≡ false → (k : ℕ) → from ≤ k → k < from + 16 → ((plan_of plan.now).group k == group) ≡ false }
+{
+    let groups = plan.group.as_slice();
+    let from = from as usize;
+    if groups.len() < from + 16 {
+        return true;
+    }
+    holds(&groups[from..from + 16], group)
+}
+
+/// Whether a number is one of others. All of them are looked at, so that several can be at once.
+fn holds(numbers: &[u16], number: u16) -> bool
+    ensures { result ≡ list_any (λ other. other == number) numbers.now }
+{
+    let mut held = false;
+    for other in numbers {
+        held |= *other == number;
+    }
+    held
 }
 
 fn is_sibling(plan: &Plan, of: u16, thread: u16) -> bool
