@@ -1,7 +1,6 @@
 -- The words with which a bay begins, and that the table begins by its rule.
-use Rattle.std.proofs.Common.{◌≡◌, ℕ, zero, suc, ◌+◌, ◌-◌, ◌*◌, ◌<◌, ◌≤◌, ◌==◌, ◌&&◌, Bool, true, false, if◌then◌else◌, nat_le, nat_lt, IsTrue, List, [], ◌∷◌, length, map, slice_index, unwrap_or, refl, sym, ap, subst, ◌∙◌, arith}
+use Rattle.std.proofs.Common.{◌≡◌, ℕ, zero, suc, ◌+◌, ◌-◌, ◌*◌, ◌<◌, ◌≤◌, ◌==◌, ◌&&◌, Bool, true, false, if◌then◌else◌, nat_le, nat_lt, IsTrue, List, [], ◌∷◌, length, slice_index, unwrap_or, refl, sym, ap, subst, ◌∙◌, arith}
 use Rattle.std.proofs.Math.Path.{fun_ext}
-use Rattle.std.specs.List.{range_with_len}
 use Rattle.std.proofs.lemmas.Bool.Decides.{nat_tests}
 use Rattle.std.proofs.lemmas.Option.{slice_get_past}
 use Rattle.std.proofs.lemmas.List.FromFn.{length-map-range_with_len, get_or-map-range_with_len}
@@ -26,7 +25,7 @@ use Rattle.ctl_table.specs.declared.standings.Standing.{Standing}
 use Rattle.ctl_table.specs.declared.standings.View.{View}
 use Rattle.ctl_table.specs.declared.standings.View.TheVariants.{Spent, Sits}
 use Rattle.ctl_table.specs.Words.{words_of}
-use Rattle.ctl_table.specs.Openings.{first_revision, opening_at, IsCopy}
+use Rattle.ctl_table.specs.Openings.{first_revision, opening_at, opening_row, IsCopy}
 use Rattle.ctl_table.specs.Standings.{opening_standing, opening_view}
 use Rattle.ctl_table.specs.Holds.{Holds, SeatOk}
 use Rattle.ctl_table.proofs.Sitting.{sits_not_spent}
@@ -113,9 +112,6 @@ absent_at p sound (Rev g) e =
     let past = past_of g (plan_of p).groups e in
     ap (λ entry. unwrap_or entry 0) (slice_get_past p.rev0.items g (omega (arith, past, sound.tables.revisions)))
 absent_at p sound (Res g) e = refl
-
-abbrev pub opening_row : Plan → List ℕ
-opening_row plan = map (opening_at plan) (range_with_len 0 (word_count plan))
 
 pub opening_row_long : (plan : Plan) → length (opening_row plan) ≡ word_count plan
 opening_row_long plan = length-map-range_with_len (opening_at plan) 0 (word_count plan)

@@ -39,5 +39,7 @@ TurnLaw =
     operation (plan_of plan) v.thread v.local h ≡ Some op →
     IsTrue (is_word (plan_of plan) (touched op)) →
     words_of (plan_of plan) s.words (touched op) ≡ found →
-    (held' : Holds plan (turned_desk plan s id v h op found))
-    × Round (plan_of plan) (shown_on plan s held) (event_of h v.thread) (after (plan_of plan) v.thread v.local h found).1 (shown_on plan (turned_desk plan s id v h op found) held')
+    (let next = turned_desk plan s id v h op found in
+    let item = (after (plan_of plan) v.thread v.local h found).1 in
+    (held' : Holds plan next)
+    × Round (plan_of plan) (shown_on plan s held) (event_of h v.thread) item (shown_on plan next held'))

@@ -1,7 +1,9 @@
 -- What a bay begins with.
-use Rattle.std.specs.Prelude.{◌≡◌, ℕ, ◌+◌, ◌-◌, ◌*◌, ◌==◌, ◌&&◌, if◌then◌else◌, nat_le, nat_lt}
+use Rattle.std.specs.Prelude.{◌≡◌, ℕ, ◌+◌, ◌-◌, ◌*◌, ◌==◌, ◌&&◌, if◌then◌else◌, nat_le, nat_lt, List, map}
+use Rattle.std.specs.List.{range_with_len}
 use Rattle.rendezvous_steps.specs.Plan.{Plan, online_count}
 use Rattle.ctl_words.specs.declared.plans.Plan.{Plan as Tables}
+use Rattle.ctl_words.specs.Places.{word_count}
 
 -- where the revisions of the groups begin
 abbrev pub first_revision : Plan → ℕ
@@ -14,6 +16,9 @@ opening_at plan k =
     if nat_le (first_revision plan) k && nat_lt k (first_revision plan + plan.groups)
     then plan.rev0 (k - first_revision plan)
     else 0
+
+abbrev pub opening_row : Plan → List ℕ
+opening_row plan = map (opening_at plan) (range_with_len 0 (word_count plan))
 
 -- q has the tables of p
 pub record IsCopy (p q : Tables) : Type 0 where

@@ -1,5 +1,5 @@
 -- Bays and posts as callers see them.
-use Rattle.std.specs.Prelude.{◌≡◌, ℕ, ◌<◌, Bool, true, false, Some, IsTrue, []}
+use Rattle.std.specs.Prelude.{◌≡◌, ℕ, ◌+◌, ◌<◌, ◌||◌, Bool, true, false, Some, IsTrue, []}
 use Rattle.rendezvous_steps.specs.declared.steps.Phase.{Phase}
 use Rattle.rendezvous_steps.specs.declared.steps.Phase.TheVariants.{OfflineWait, Waiting, SiblingWait, OfflineHold}
 use Rattle.rendezvous_steps.specs.declared.steps.Local.{Local}
@@ -18,6 +18,7 @@ use Rattle.ctl_table.specs.declared.standings.View.{View}
 use Rattle.ctl_table.specs.declared.standings.View.TheVariants.{Sits}
 use Rattle.ctl_table.specs.declared.bays.Bay.{Bay}
 use Rattle.ctl_table.specs.declared.posts.Post.{Post}
+use Rattle.ctl_table.specs.Standings.{one_more}
 
 abbrev pub plan_in : Bay → Plan
 plan_in bay = plan_of bay.plan
@@ -77,6 +78,22 @@ pub record Opens (plan : Plan) (t : ℕ) (post : Post) : Type 0 where
   pub given : given_by post ≡ 0
   pub joined : joined_by post ≡ 0
   pub late : is_late post ≡ false
+
+-- a post that has split off one more, and else is as it was
+pub record HasGiven (before after' : Post) : Type 0 where
+  pub given : given_by after' ≡ given_by before + 1
+  pub thread : thread_of after' ≡ thread_of before
+  pub local : local_of after' ≡ local_of before
+  pub joined : joined_by after' ≡ joined_by before
+  pub late : is_late after' ≡ is_late before
+
+-- a post that has joined another, is late where that was, and else is as it was
+pub record HasJoined (before other after' : Post) : Type 0 where
+  pub joined : joined_by after' ≡ one_more (joined_by before)
+  pub late : is_late after' ≡ (is_late before || is_late other)
+  pub thread : thread_of after' ≡ thread_of before
+  pub local : local_of after' ≡ local_of before
+  pub given : given_by after' ≡ given_by before
 
 -- the seat may do this operation, which is the one that the step table names for its thread
 pub record MayTurn (bay : Bay) (h : How) (seat : Seat (Unit {0}) View) (op : Op) : Type 0 where

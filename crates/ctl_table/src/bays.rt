@@ -29,11 +29,12 @@ pub struct Bay {
 impl Bay {
     ghost use Rattle.std.specs.Prelude.{ℕ, ◌+◌, ◌<◌, ◌≤◌, ◌||◌, IfOk, IsTrue};
     ghost use Rattle.rendezvous_steps.specs.StepTable.{opening, is_last};
-    ghost use Rattle.ctl_table.specs.Standings.{one_more};
-    ghost use Rattle.ctl_table.specs.Posts.{plan_in, thread_of, local_of, phase_of, given_by, joined_by, is_late, IsOf, Opens};
+    ghost use Rattle.ctl_table.specs.Posts.{plan_in, thread_of, phase_of, given_by, joined_by, is_late};
+    ghost use Rattle.ctl_table.specs.Posts.{IsOf, Opens, HasGiven, HasJoined};
     ghost use Rattle.ctl_table.specs.Closes.{Shows};
 
-    /// A bay in which the rendezvous of the plan begins, and thread 0's post. It answers want of memory and nothing else.
+    /// A bay in which the rendezvous of the plan begins, and thread 0's post. It answers want of memory and nothing
+    /// else.
     pub fn new(alloc: Global, plan: &Plan) -> Result<(Bay, Post), NoMemory>
         requires sound { IsSound plan.now }
         requires few { plan.now.threads ≤ 32 }
@@ -62,8 +63,7 @@ impl Bay {
         requires room { given_by post.old + 1 < (plan_in self.now).threads }
         ensures ours { IsOf self.now post.new × IsOf self.now result }
         ensures next { Opens (plan_in self.now) (given_by post.old + 1) result }
-        ensures given { given_by post.new ≡ given_by post.old + 1 }
-        ensures stays { (thread_of post.new ≡ thread_of post.old) × (local_of post.new ≡ local_of post.old) × (joined_by post.new ≡ joined_by post.old) × (is_late post.new ≡ is_late post.old) }
+        ensures given { HasGiven post.old post.new }
     {
         let seat = self.table.shared.split_seat::<Handing>(&mut post.seat);
         post.given += 1;
@@ -84,9 +84,7 @@ impl Bay {
         requires first { thread_of post.old ≡ 0 }
         requires ended { IsTrue (is_last (phase_of other)) }
         ensures ours { IsOf self.now post.new }
-        ensures joined { joined_by post.new ≡ one_more (joined_by post.old) }
-        ensures late { is_late post.new ≡ (is_late post.old || is_late other) }
-        ensures stays { (thread_of post.new ≡ thread_of post.old) × (local_of post.new ≡ local_of post.old) × (given_by post.new ≡ given_by post.old) }
+        ensures joined { HasJoined post.old other post.new }
     {
         let Post { seat, late, .. } = other;
         self.table.shared.join_seat::<Taking>(&mut post.seat, seat);

@@ -8,7 +8,7 @@ ghost use Rattle.rendezvous_steps.specs.Plan.{threads_from};
 ghost use Rattle.ctl_words.specs.Plans.{plan_of, IsSound};
 ghost use Rattle.ctl_words.specs.Places.{word_count, is_word};
 ghost use Rattle.ctl_core.specs.Moments.{end_in};
-ghost use Rattle.ctl_table.specs.Words.{words_of, is_first_or_offer};
+ghost use Rattle.ctl_table.specs.Words.{words_of, RevisionsAre};
 
 use arrayvec::ArrayVec;
 use atomic_table::Closed as Emptied;
@@ -25,11 +25,11 @@ pub struct Last<'a> {
     ghost sound: { IsSound plan.now },
     ghost full: { IsFull words.now.words },
     ghost sized: { slots_len words.now.words ≡ word_count (plan_of plan.now) },
-    ghost revisions: { (g : ℕ) → IsTrue (is_first_or_offer (plan_of plan.now) g (words_of (plan_of plan.now) (slots_items words.now.words) (Rev g))) },
+    ghost revisions: { RevisionsAre (plan_of plan.now) (words_of (plan_of plan.now) (slots_items words.now.words)) },
 }
 
 impl Last<'_> {
-    ghost use Rattle.ctl_table.specs.Lasts.{plan_at, words_at, OutcomeReads};
+    ghost use Rattle.ctl_table.specs.Lasts.{plan_at, words_at, ends_read, revisions_read, OutcomeReads};
 
     /// The outcome that the words show.
     pub fn outcome(&self) -> Outcome
@@ -50,7 +50,7 @@ impl Last<'_> {
     }
 
     fn ends(&self) -> ArrayVec<End, 256>
-        ensures { result.items ≡ map (end_in (plan_at self.now) (words_at self.now)) (threads_from (plan_at self.now) 0) }
+        ensures { result.items ≡ ends_read (plan_at self.now) (words_at self.now) }
     {
         let mut ends = ArrayVec::new();
         for thread in 0..self.plan.threads {
@@ -78,7 +78,7 @@ impl Last<'_> {
     }
 
     fn revisions(&self) -> ArrayVec<u32, 256>
-        ensures { result.items ≡ map (λ g. words_at self.now (Rev g)) (range_with_len 0 (plan_at self.now).groups) }
+        ensures { result.items ≡ revisions_read (plan_at self.now) (words_at self.now) }
     {
         let mut revisions = ArrayVec::new();
         for group in 0..self.plan.groups() {

@@ -1,10 +1,8 @@
 //! What a bay begins with.
 
-ghost use Rattle.std.specs.Prelude.{◌≡◌, ◌<◌, IfOk, map, slice_index};
-ghost use Rattle.std.specs.List.{range_with_len};
+ghost use Rattle.std.specs.Prelude.{◌≡◌, IfOk};
 ghost use Rattle.ctl_words.specs.Plans.{plan_of, IsSound};
-ghost use Rattle.ctl_words.specs.Places.{word_count};
-ghost use Rattle.ctl_table.specs.Openings.{opening_at, IsCopy};
+ghost use Rattle.ctl_table.specs.Openings.{opening_at, opening_row, IsCopy};
 
 use arrayvec::ArrayVec;
 use ctl_words::Plan;
@@ -14,7 +12,7 @@ use uc_bytes::NoMemory;
 /// What the words hold when the rendezvous begins, place by place. It answers want of memory and nothing else.
 pub fn opening_words(alloc: Global, plan: &Plan) -> Result<Vec<u64>, NoMemory>
     requires { IsSound plan.now }
-    ensures { IfOk result (λ words. words.items ≡ map (opening_at (plan_of plan.now)) (range_with_len 0 (word_count (plan_of plan.now)))) }
+    ensures { IfOk result (λ words. words.items ≡ opening_row (plan_of plan.now)) }
 {
     Ok(
         (0..plan.words())

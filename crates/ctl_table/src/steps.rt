@@ -17,8 +17,8 @@ use ctl_thread::{after, next};
 use rendezvous_steps::{How, Op};
 
 impl Bay {
-    /// One operation of the post's thread. It takes no memory and waits for nobody. The thread goes on as the step table
-    /// says of what its word held. It never gives up on others, and the post is not later than it was.
+    /// One operation of the post's thread. It takes no memory and waits for nobody. The thread goes on as the step
+    /// table says of what its word held. It never gives up on others, and the post is late only where it was.
     pub fn step(&self, post: &mut Post) -> Seen
         requires ours { IsOf self.now post.old }
         ensures took { Took (plan_in self.now) Step post.old post.new result }
@@ -31,8 +31,8 @@ impl Bay {
         }
     }
 
-    /// One operation of a thread that has waited as long as the plan lets it. It gives up where nothing has come meanwhile.
-    /// It takes no memory and waits for nobody, and the post is late from then on.
+    /// One operation of a thread that has waited as long as the plan lets it. It gives up where nothing has come
+    /// meanwhile. It takes no memory and waits for nobody, and the post is late from then on.
     pub fn time_out(&self, post: &mut Post) -> Seen
         requires ours { IsOf self.now post.old }
         requires waits { IsTrue (is_waiting (phase_of post.old)) }

@@ -52,7 +52,8 @@ fn has_ended(post: &Post) -> bool
 
 /// Joins the other post of two, and closes the bay.
 fn close(rt: &impl Abort, bay: Bay, mut zero: Post, one: Post) -> Closed
-    requires { IsOf bay zero × IsOf bay one }
+    requires ours { IsOf bay zero × IsOf bay one }
+    requires two { (plan_in bay).threads ≡ 2 }
 {
     assert!(rt; zero.thread() == 0 && has_ended(&zero) && has_ended(&one));
     bay.join(&mut zero, one);
@@ -66,8 +67,11 @@ fn walk(rt: &impl Abort, bay: &Bay, zero: &mut Post, one: &mut Post, turns: &[(u
     ensures { IsOf bay.now zero.new × IsOf bay.now one.new }
 {
     for (thread, seen) in turns {
-        let post = if *thread == 0 { &mut *zero } else { &mut *one };
-        let came = bay.step(post);
+        let came = if *thread == 0 {
+            bay.step(zero)
+        } else {
+            bay.step(one)
+        };
         assert!(rt; came == *seen);
     }
 }
@@ -163,13 +167,13 @@ fn table_timeout(rt: HostRuntime) -> Result<(), Fail> {
     let (zero, one) = join(
         &rt,
         || -> Post
-            requires { IsOf bay.now zero }
-            requires { patience ≡ (plan_in bay.now).patience }
-            ensures { IsOf bay.entry.now result }
+            requires ours { IsOf bay zero }
+            requires patience { patience ≡ (plan_in bay).patience }
+            ensures { IsOf bay result }
         { drop_first(&bay, zero, patience, &dropped) },
         || -> Post
-            requires { IsOf bay.now one }
-            ensures { IsOf bay.entry.now result }
+            requires { IsOf bay one }
+            ensures { IsOf bay result }
         { come_late(&bay, one, &dropped) },
     );
     let closed = close(&rt, bay, zero, one);
