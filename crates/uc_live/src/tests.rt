@@ -1,12 +1,18 @@
 //! Live runs.
 
+ghost use Rattle.std.specs.Prelude.{◌≤◌};
+ghost use Rattle.ctl_words.specs.Plans.{IsSound};
+
 use crate::{Gate, LiveRun, OpenGate, Point};
 use arrayvec::ArrayVec;
 use ctl_table::{End, Plan, ThreadResult};
 use rendezvous_steps::Kind;
+use std::alloc::Global;
+use std::sync::Wait;
 use std::sync::atomic::{AtomicBool, Ordering};
 use std::test::Fail;
-use std::thread::yield_now;
+use std::thread::{Threads, yield_now};
+use uc_bytes::NoMemory;
 
 const OLD: u32 = 0xb4;
 
@@ -66,6 +72,7 @@ fn patient_workers_load_every_core(rt: HostRuntime) -> Result<(), Fail> {
 }
 
 /// Holds threads 0 and 1 in the handler, each until the other has come, for so many turns at most.
+#[derive(Drop)]
 struct Meeting {
     came: [AtomicBool; 2],
     met: [AtomicBool; 2],
@@ -93,6 +100,21 @@ impl Gate for Meeting {
     fn ordinary(&self, _thread: u16) {}
 }
 
+/// What a live run at this gate decides.
+fn decided<R: Threads + Wait>(
+    rt: &R,
+    alloc: Global,
+    plan: &Plan,
+    gate: &Meeting,
+) -> Result<u64, NoMemory>
+    requires sound { IsSound plan.now }
+    requires few { plan.now.threads ≤ 32 }
+{
+    let mut live = LiveRun::new(rt, alloc, gate);
+    let outcome = live.hold(alloc, plan)?;
+    Ok(outcome.decide)
+}
+
 /// Each of two workers waits in the handler for the other, so no thread steps both.
 #[test]
 fn workers_run_side_by_side(rt: HostRuntime) -> Result<(), Fail> {
@@ -102,9 +124,7 @@ fn workers_run_side_by_side(rt: HostRuntime) -> Result<(), Fail> {
         came: [AtomicBool::new(false), AtomicBool::new(false)],
         met: [AtomicBool::new(false), AtomicBool::new(false)],
     };
-    let mut live = LiveRun::new(&rt, rt.alloc(), &gate);
-    let outcome = live.hold(rt.alloc(), &plan)?;
-    assert!(rt; outcome.decide == 1);
+    assert!(rt; decided(&rt, rt.alloc(), &plan, &gate)? == 1);
     assert!(rt; gate.met[0].load(Ordering::SeqCst) && gate.met[1].load(Ordering::SeqCst));
     Ok(())
 }
