@@ -24,7 +24,7 @@ pub record GoesOn (lists : Bool) (setting : Setting) (commands : List Command) (
   -- the commands behind the last leave no file unread
   pub unread : is_unread (session_answer (dids ++ last ∷ more)) ≡ is_read_fault last.answer
 
--- whatever the files hold, done commands and one that was begun go on to a whole session, where each sound plan has a run
+-- whatever the files hold, done commands and a begun one go on to a whole session, where every sound plan has a run
 abbrev pub BegunGoesOn : Type 0
 BegunGoesOn =
     (lists : Bool) (setting : Setting) (done rest : List Command) (one : Command) (dids : List Did) (state : State)

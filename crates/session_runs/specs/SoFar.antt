@@ -9,7 +9,7 @@ use Rattle.session_steps.specs.Did.{Did}
 use Rattle.session_steps.specs.Step.{SessionStep}
 use Rattle.session_steps.specs.Session.{ends_session, texts_from, all_reads, all_runs, all_done}
 
--- each command did this, from the state that the one before it left, and did not end the session; this is the last state
+-- each command did this from the state that the one before it left, and did not end the session; the last left this one
 abbrev pub StepsTo : Bool → Setting → State → List Command → List Did → State → Type 0
 StepsTo lists setting state [] [] after = after ≡ state
 StepsTo lists setting state (one ∷ commands) (did ∷ dids) after =
@@ -18,7 +18,7 @@ StepsTo lists setting state (one ∷ commands) (did ∷ dids) after =
     × StepsTo lists setting did.after commands dids after
 StepsTo lists setting state commands dids after = ⊥
 
--- the commands of a session so far: whether all were done, the state that they left, and what was written, read and kept
+-- the commands of a session so far: whether all were done, the state they left, and what was written, read and kept
 pub record PlayedSoFar {D : Type 0} (stands : D → List ℕ → Type 0) (lists : Bool) (tells : Type 0)
     (holds : List ℕ → List ℕ) (setting : Setting) (commands : List Command) (done : Bool) (state : State)
     (files_before files_now : ℕ) (runs_before runs_now : List RunOf) (sink_before sink_now : D) : Type 0 where
