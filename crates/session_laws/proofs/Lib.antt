@@ -3,7 +3,7 @@ mod Revisions
 mod Threads
 mod Entries
 mod Putting
-mod Parts
+pub mod Parts
 pub mod Stands
 pub mod Sessions
 mod Groups
