@@ -1,4 +1,8 @@
 pub mod Searches
-pub mod Playing
+pub mod Behind
 mod Acting
+mod Told
+mod Stopping
+mod Offered
 mod Meeting
+mod Loading

@@ -1,7 +1,7 @@
 -- A load that has something to offer, as a step of a session.
-use Rattle.std.proofs.Common.{◌≡◌, ℕ, ◌≤◌, Bool, false, List, [], ◌∷◌, ◌++◌, Option, None, Some, Result, Ok, Err, refl, sym, ap, ◌∙◌, subst, arith, append_assoc}
+use Rattle.std.proofs.Common.{◌≡◌, ℕ, Bool, false, List, ◌++◌, Option, Some, Result, Ok, Err, refl, sym, ap, ◌∙◌, subst, arith, append_assoc}
 use Rattle.uc_io.specs.Faults.{Rose}
-use Rattle.uc_io.specs.Writing.{Grew, Writes}
+use Rattle.uc_io.specs.Writing.{Writes}
 use Rattle.uc_io.proofs.Writes.{Writes-then}
 use Rattle.file_entries.specs.Entry.{Entry}
 use Rattle.file_reads.specs.Reads.{Read, AreHeld}
@@ -33,10 +33,10 @@ use Rattle.ctl_core.specs.declared.outcomes.Outcome.{Outcome as Tables}
 use Rattle.ctl_core.specs.declared.runs.RunAnswer.{RunAnswer}
 use Rattle.ctl_core.specs.declared.runs.RunAnswer.TheVariants as run
 use Rattle.ctl_core.specs.Runs.{IsRun}
-use Rattle.uc_session.specs.Meeting.{CameTo, CutShort, Meets}
+use Rattle.uc_session.specs.Meeting.{CameTo, CutShort, Meets, cut_short}
 use Rattle.uc_session.specs.Playing.{told_of, Follows, Does}
-use Rattle.uc_session.proofs.Playing as playing
-use Rattle.uc_session.proofs.Playing.{come}
+use Rattle.uc_session.proofs.Behind as playing
+use Rattle.uc_session.proofs.Behind.{come}
 
 -- ---- what is offered, and the run
 
@@ -257,6 +257,13 @@ module _ (lists : Bool) (setting : Setting) (old : State) (force : Bool) (names 
         is_out =
             stops NoMemory (λ answer is. cc)
             (playing.out stands faults one did old before now cut.front cut.is_front.0 cut.later split cut.grew)
+
+      -- no outcome came of it
+      pub is_stopped : VerdictHolds → (now : D) (answer : RunAnswer) →
+          Meets stands faults lists plan beats offered runs_before runs_now before now (Err answer) →
+          Done old now (cut_short answer)
+      is_stopped verdicts now run.WriteFault is = is_cut verdicts now is.0 is.1
+      is_stopped verdicts now run.NoMemory is = is_out verdicts now is
 
       -- the threads met, the state has changed, and the rest was written, or not all of it
       pub is_met : {E : Type 0} (mid now : D) (outcome : Outcome) (found : Verdict) (r : Result (Unit {0}) E) →

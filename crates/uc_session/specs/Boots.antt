@@ -1,8 +1,7 @@
 -- What a boot from the entries of a catalogue came to.
-use Rattle.std.specs.Prelude.{◌≡◌, ℕ, true, List, [], Option, Err}
+use Rattle.std.specs.Prelude.{◌≡◌, ℕ, List, [], Option, Err}
 use Rattle.file_entries.specs.Entry.{Entry}
 use Rattle.report_text.specs.Offers.{AreOffers}
-use Rattle.machine_steps.specs.Hardware.{is_off}
 use Rattle.session_text.specs.declared.answers.CommandAnswer.{CommandAnswer}
 use Rattle.session_text.specs.declared.answers.CommandAnswer.TheVariants.{Done, Load}
 use Rattle.session_text.specs.declared.answers.LoadAnswer.TheVariants.{PoolFull}

@@ -2,5 +2,6 @@ pub mod Verdicts
 pub mod Sessions
 pub mod Acts
 pub mod Boots
+pub mod Loads
 pub mod Meeting
 pub mod Playing

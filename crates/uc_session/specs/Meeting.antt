@@ -9,6 +9,8 @@ use Rattle.rendezvous_model.specs.Outcome.{Outcome}
 use Rattle.rendezvous_rule.specs.Ran.{Ran}
 use Rattle.rendezvous_rule.specs.Runs.{RunOf, SomeRun}
 use Rattle.item_text.specs.Items.{item_line}
+use Rattle.session_text.specs.declared.answers.Played.{Played}
+use Rattle.session_text.specs.declared.answers.Played.TheVariants as played
 use Rattle.ctl_core.specs.declared.outcomes.Outcome.{Outcome as Tables}
 use Rattle.ctl_core.specs.declared.runs.RunAnswer.{RunAnswer}
 use Rattle.ctl_core.specs.declared.runs.RunAnswer.TheVariants.{WriteFault, NoMemory}
@@ -37,3 +39,8 @@ Meets stands faults lists plan beats offered runs_before runs_now before now (Er
     CutShort stands faults lists plan beats offered before now × Rose (faults before) (faults now)
 Meets stands faults lists plan beats offered runs_before runs_now before now (Err NoMemory) =
     CutShort stands faults lists plan beats offered before now
+
+-- a call whose rendezvous came to no outcome
+abbrev pub cut_short : RunAnswer → Played
+cut_short WriteFault = played.WriteFault
+cut_short NoMemory = played.NoMemory

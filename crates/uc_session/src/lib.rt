@@ -4,8 +4,12 @@
 #![tactic(auto)]
 
 mod acted;
+mod boots;
+mod loads;
 mod plain;
+mod playing;
 mod sessions;
+mod setting_out;
 mod verdicts;
 
 pub use sessions::Session;

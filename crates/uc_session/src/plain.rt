@@ -1,7 +1,8 @@
 //! The commands that read no file.
 
-ghost use Rattle.std.specs.Prelude.{◌≡◌, Bool, []};
+ghost use Rattle.std.specs.Prelude.{◌≡◌, Bool, false, []};
 ghost use Rattle.session_laws.specs.Standing.{Standing, InRange};
+ghost use Rattle.session_steps.specs.Played.{is_read_fault};
 ghost use Rattle.session_steps.specs.Step.{SessionStep};
 ghost use Rattle.session_parts.specs.Parts.{setting_of, state_of};
 ghost use Rattle.uc_session.specs.Acts.{ReadsNoFile, did_by};
@@ -17,6 +18,7 @@ pub fn act(parts: &mut Parts, command: &Command) -> Acted
     requires range { InRange (setting_of parts.old) command.now }
     requires standing { Standing (setting_of parts.old) (state_of parts.old) }
     ensures step { (lists : Bool) → SessionStep lists (setting_of parts.old) (state_of parts.old) command.now (did_by [] result (state_of parts.new)) }
+    ensures read { is_read_fault result.answer ≡ false }
     ensures setting { setting_of parts.new ≡ setting_of parts.old }
 {
     match command {

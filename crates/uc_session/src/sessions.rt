@@ -11,12 +11,17 @@ ghost use Rattle.file_reads.specs.Reads.{AreHeld};
 ghost use Rattle.session_laws.specs.Standing.{Standing, InRange};
 ghost use Rattle.session_parts.specs.Parts.{setting_of as parts_setting, state_of as parts_state};
 
+use crate::playing::play;
+use ctl_core::Rendezvous;
 use hw_machine::{Power, ThreadState};
 use patch_pool::{PatchId, PatchPool};
+use script_text::Command;
 use session_laws::each_state_stands;
 use session_parts::Parts;
+use session_text::Played;
 use std::alloc::Global;
 use uc_bytes::NoMemory;
+use uc_io::{Files, Sink};
 use uc_topology::Topology;
 
 /// A session on the machine that a topology states: the machine, the region of patches, and what each group caches. Between
@@ -87,5 +92,33 @@ impl Session {
         ensures { first_block result ≡ (state_of self.now).cached g }
     {
         self.parts.cached(g)
+    }
+
+    /// Runs a command, number `number` of its script, and writes its text. A file is unread exactly where the files' count of
+    /// faults rose, and a write fault comes only where the sink's did. After a write fault in the heading or in what a load
+    /// shows, and for want of memory, the session is as before; after a later write fault it is in the state after the
+    /// command.
+    pub fn run<R: Rendezvous, F: Files, S: Sink>(
+        &mut self,
+        alloc: Global,
+        command: &Command,
+        number: u32,
+        how: &mut R,
+        files: &mut F,
+        out: &mut S,
+    ) -> Played
+        requires range { InRange (setting_of self.old) command.now }
+        requires beats { BeatsInRange (machine_of (setting_of self.old)).threads command.now }
+        requires most { (machine_of (setting_of self.old)).threads ≤ R.limit how.old }
+        ensures played { IsPlayed S.stands S.faults R.lists (λ reads. F.tells files.old → AreHeld (F.holds files.old) reads) (setting_of self.old) number command.now (F.faults files.old) (F.faults files.new) (R.runs how.old) (R.runs how.new) (state_of self.old) (state_of self.new) out.old out.new result }
+        ensures setting { setting_of self.new ≡ setting_of self.old }
+        ensures same { F.holds files.new ≡ F.holds files.old }
+        ensures still { F.tells files.old → F.tells files.new }
+        ensures later { F.faults files.old ≤ F.faults files.new }
+        ensures sink_later { S.faults out.old ≤ S.faults out.new }
+        ensures most_stays { R.limit how.new ≡ R.limit how.old }
+    {
+        let _topology = self.parts.topology();
+        play(alloc, &mut self.parts, command, number, how, files, out)
     }
 }

@@ -1,4 +1,4 @@
-use Rattle.std.proofs.Common.{List, ◌++◌, ap, subst}
+use Rattle.std.proofs.Common.{List, ◌++◌, subst}
 use Rattle.uc_io.specs.Writing.{Writes}
 use Rattle.uc_io.proofs.Writes.{Writes-then}
 use Rattle.machine_steps.specs.declared.bring_ups.BringUp.{BringUp}

@@ -1,8 +1,8 @@
 -- What a call that runs one command came to, by what it wrote of the command's text.
-use Rattle.std.proofs.Common.{◌≡◌, ◌⊎◌, ℕ, ◌+◌, ◌<◌, ◌≤◌, Bool, true, false, IsTrue, List, [], ◌∷◌, ◌++◌, length, Result, Ok, Err, refl, sym, ap, ◌∙◌, subst, inl, inr, arith, length-append, append_assoc}
+use Rattle.std.proofs.Common.{◌≡◌, ℕ, ◌+◌, ◌≤◌, Bool, true, false, IsTrue, List, ◌++◌, length, Result, Ok, Err, refl, sym, ap, ◌∙◌, subst, inl, inr, arith, length-append, append_assoc}
 use Rattle.std.proofs.lemmas.Bool.{false≢true}
 use Rattle.uc_io.specs.Faults.{Rose}
-use Rattle.uc_io.specs.Writing.{Grew, GrewByFront, Writes}
+use Rattle.uc_io.specs.Writing.{Grew, Writes}
 use Rattle.uc_io.proofs.Writes.{Writes-then}
 use Rattle.top_call.specs.Written.{IsFront}
 use Rattle.file_reads.specs.Reads.{Read}
@@ -56,7 +56,7 @@ still_old front rest shown old after split =
     }
 
 -- the state after the command stands where all that is shown was written
-is_new : (shown front : List ℕ) (old after : State) → LeftBy (shown ++ front) shown old after after
+pub is_new : (shown front : List ℕ) (old after : State) → LeftBy (shown ++ front) shown old after after
 is_new shown front old after =
     let lengths : length (shown ++ front) ≡ length shown + length front = length-append shown front in
     record {

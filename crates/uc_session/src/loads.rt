@@ -1,0 +1,153 @@
+//! A load.
+
+ghost use Rattle.std.specs.Prelude.{◌≡◌, ◌≤◌, ◌++◌, ℕ, List, Option, All, IfSome, length, ◌<◌};
+ghost use Rattle.uc_io.specs.Writing.{Writes};
+ghost use Rattle.uc_topology.specs.Stated.{group_count};
+ghost use Rattle.rendezvous_rule.specs.Runs.{BeatInRange};
+ghost use Rattle.rendezvous_steps.specs.Padded.{Padded};
+ghost use Rattle.script_text.specs.declared.command.Command.TheVariants.{Load};
+ghost use Rattle.session_text.specs.Lines.{answer_line};
+ghost use Rattle.session_laws.specs.Standing.{Standing};
+ghost use Rattle.session_steps.specs.State.{Setting, State, machine_of};
+ghost use Rattle.session_steps.specs.Offers.{load_offers_text, plan_of as load_plan};
+ghost use Rattle.session_steps.specs.Did.{results_text};
+ghost use Rattle.machine_steps.specs.Puts.{Puts};
+ghost use Rattle.ctl_words.specs.Plans.{plan_of, IsSound};
+ghost use Rattle.ctl_core.specs.Outcomes.{outcome_of};
+ghost use Rattle.session_parts.specs.Parts.{setting_of, state_of};
+ghost use Rattle.uc_session.specs.Meeting.{Meets, cut_short};
+ghost use Rattle.uc_session.specs.Playing.{Tells, Does};
+ghost use Rattle.uc_session.specs.Verdicts.{answered};
+
+use crate::acted::Acted;
+use crate::playing::tell;
+use crate::setting_out::{Ready, Stop, set_out};
+use crate::verdicts::verdict;
+use command_laws::each_command_does_something;
+use ctl_core::{Outcome, Rendezvous, RunAnswer};
+use ctl_words::{Plan, tables_end};
+use play_laws::each_event_keeps_the_rule;
+use rendezvous_steps::Beat;
+use round_laws::the_verdict_is_the_first_that_holds;
+use session_parts::Parts;
+use session_report::{put_answer, put_load_offers, put_results};
+use session_text::{CommandAnswer, LoadAnswer, Played};
+use std::alloc::Global;
+use uc_bytes::Text;
+use uc_io::{Files, Sink, SinkFailed};
+use uc_topology::Topology;
+
+/// Writes what a load offers, and lets the threads of its plan meet.
+fn offer_and_run<R: Rendezvous, S: Sink>(
+    alloc: Global,
+    topology: &Topology,
+    plan: &Plan,
+    ready: &Ready,
+    beats: &[Beat],
+    how: &mut R,
+    out: &mut S,
+) -> Result<Outcome, RunAnswer>
+    requires count { length ready.now.offers.items ≡ group_count topology.now.stated.cores }
+    requires within { All (λ offer. IfSome offer (λ number. number < length ready.now.catalog.entries)) ready.now.offers.items }
+    requires sound { IsSound plan.now }
+    requires few { plan.now.threads ≤ R.limit how.old }
+    requires in_range { All (BeatInRange plan.now.threads) beats.now }
+    ensures meets { (setting : Setting) (state : State) (puts : Puts) → setting.machine ≡ topology.now → plan_of plan.now ≡ load_plan setting state puts ready.now.offers.items → Meets S.stands S.faults R.lists (plan_of plan.now) beats.now (load_offers_text setting state ready.now.catalog.entries ready.now.offers.items) (R.runs how.old) (R.runs how.new) out.old out.new result }
+    ensures most_stays { R.limit how.new ≡ R.limit how.old }
+{
+    tables_end();
+    match put_load_offers(out, topology, plan, &ready.catalog, ready.offers.as_slice()) {
+        Ok(()) => how.run(alloc, plan, beats, out),
+        Err(_) => Err(RunAnswer::WriteFault),
+    }
+}
+
+/// What a command answers whose load came to this.
+fn command_answer(answer: LoadAnswer) -> CommandAnswer
+    ensures { result ≡ answered answer }
+{
+    match answer {
+        LoadAnswer::Done => CommandAnswer::Done,
+        other => CommandAnswer::Load(other),
+    }
+}
+
+/// What a load came to whose rendezvous came to no outcome.
+fn cut_short(answer: RunAnswer) -> Played
+    ensures { result ≡ cut_short answer }
+{
+    match answer {
+        RunAnswer::WriteFault => Played::WriteFault,
+        RunAnswer::NoMemory => Played::NoMemory,
+    }
+}
+
+/// Writes what a rendezvous came to, and the answer.
+fn put_end<S: Sink>(
+    out: &mut S,
+    topology: &Topology,
+    plan: &Plan,
+    outcome: &Outcome,
+    names: &[Text],
+    answer: CommandAnswer,
+) -> Result<(), SinkFailed>
+    requires { length outcome.now.revs.items ≡ group_count topology.now.stated.cores }
+    ensures { (setting : Setting) (state : State) (puts : Puts) (offers : List (Option ℕ)) → setting.machine ≡ topology.now → plan_of plan.now ≡ load_plan setting state puts offers → Writes S.stands S.faults out.old out.new (results_text setting state (plan_of plan.now) (outcome_of outcome.now) ++ answer_line names.now answer) result }
+{
+    put_results(
+        out,
+        topology,
+        plan,
+        outcome.ends.as_slice(),
+        outcome.revs.as_slice(),
+    )?;
+    put_answer(out, names, answer)
+}
+
+/// Loads from the files of these names, 1 to 16, over the schedule of these beats. The heading was written.
+pub fn play_load<R: Rendezvous, F: Files, S: Sink>(
+    alloc: Global,
+    parts: &mut Parts,
+    force: bool,
+    names: &[Text],
+    beats: &[Beat],
+    how: &mut R,
+    files: &mut F,
+    out: &mut S,
+) -> Played
+    requires few { length names.now ≤ 16 }
+    requires beats { All (BeatInRange (machine_of (setting_of parts.old)).threads) beats.now }
+    requires most { (machine_of (setting_of parts.old)).threads ≤ R.limit how.old }
+    requires standing { Standing (setting_of parts.old) (state_of parts.old) }
+    ensures does { Does S.stands S.faults R.lists (F.tells files.old) (F.holds files.old) (setting_of parts.old) (Load force names.now beats.now) (F.faults files.old) (F.faults files.new) (R.runs how.old) (R.runs how.new) (state_of parts.old) (state_of parts.new) out.old out.new result }
+    ensures setting { setting_of parts.new ≡ setting_of parts.old }
+    ensures same { F.holds files.new ≡ F.holds files.old }
+    ensures still { F.tells files.old → F.tells files.new }
+    ensures later { F.faults files.old ≤ F.faults files.new }
+    ensures most_stays { R.limit how.new ≡ R.limit how.old }
+{
+    each_command_does_something();
+    each_event_keeps_the_rule();
+    the_verdict_is_the_first_that_holds();
+    tables_end();
+    let _topology = parts.topology();
+    let ready = match set_out(alloc, parts, force, names, files) {
+        Ok(ready) => ready,
+        Err(Stop::Answer(answer)) => return tell(out, names, &Acted::load(answer)),
+        Err(Stop::NoMemory) => return Played::NoMemory,
+    };
+    let plan = parts.plan(ready.places.as_slice());
+    let outcome = match offer_and_run(alloc, parts.topology(), &plan, &ready, beats, how, out) {
+        Ok(outcome) => outcome,
+        Err(answer) => {
+            parts.take_back(ready.places.as_slice());
+            return cut_short(answer);
+        }
+    };
+    parts.finish_load(ready.places.as_slice(), &plan, outcome.revs.as_slice());
+    let answer = command_answer(verdict(&plan, &outcome));
+    match put_end(out, parts.topology(), &plan, &outcome, names, answer) {
+        Ok(()) => Played::Answered(answer),
+        Err(_) => Played::WriteFault,
+    }
+}

@@ -1,0 +1,121 @@
+//! One command, with its text.
+
+ghost use Rattle.std.specs.Prelude.{◌≡◌, ◌≤◌, ◌++◌, length};
+ghost use Rattle.file_reads.specs.Reads.{AreHeld};
+ghost use Rattle.script_text.specs.declared.command.Command.TheVariants.{Boot};
+ghost use Rattle.session_text.specs.Lines.{answer_line};
+ghost use Rattle.session_laws.specs.Standing.{Standing, InRange};
+ghost use Rattle.session_steps.specs.State.{machine_of};
+ghost use Rattle.session_steps.specs.Did.{ups_text};
+ghost use Rattle.session_steps.specs.Session.{names_in};
+ghost use Rattle.session_steps.specs.Played.{IsPlayed};
+ghost use Rattle.session_parts.specs.Parts.{setting_of, state_of};
+ghost use Rattle.uc_session.specs.Playing.{Tells, Does, BeatsInRange};
+
+use crate::acted::Acted;
+use crate::boots::boot;
+use crate::loads::play_load;
+use crate::plain::act;
+use command_laws::each_command_does_something;
+use ctl_core::Rendezvous;
+use script_text::Command;
+use session_parts::Parts;
+use session_report::put_heading;
+use session_text::Played;
+use std::alloc::Global;
+use uc_bytes::{NoMemory, Text};
+use uc_io::{Files, Sink};
+
+/// Writes the threads that came up, and the answer of a command with these names of files.
+pub fn tell<S: Sink>(out: &mut S, names: &[Text], acted: &Acted) -> Played
+    ensures { Tells S.stands S.faults out.old out.new (ups_text acted.now.ups.items ++ answer_line names.now acted.now.answer) acted.now.answer result }
+{
+    match acted.put(out, names) {
+        Ok(()) => Played::Answered(acted.answer),
+        Err(_) => Played::WriteFault,
+    }
+}
+
+/// The names of files that a command gives.
+fn names_in(command: &Command) -> &[Text]
+    ensures { result.now ≡ names_in command.now }
+{
+    match command {
+        Command::Boot(names) | Command::Load { names, .. } => names.as_slice(),
+        _ => &[],
+    }
+}
+
+/// Boots with the files of these names, at most 16. The heading was written.
+fn play_boot<R: Rendezvous, F: Files, S: Sink>(
+    alloc: Global,
+    parts: &mut Parts,
+    names: &[Text],
+    how: &R,
+    files: &mut F,
+    out: &mut S,
+) -> Played
+    requires few { length names.now ≤ 16 }
+    requires standing { Standing (setting_of parts.old) (state_of parts.old) }
+    ensures does { Does S.stands S.faults R.lists (F.tells files.old) (F.holds files.old) (setting_of parts.old) (Boot names.now) (F.faults files.old) (F.faults files.new) (R.runs how.now) (R.runs how.now) (state_of parts.old) (state_of parts.new) out.old out.new result }
+    ensures setting { setting_of parts.new ≡ setting_of parts.old }
+    ensures same { F.holds files.new ≡ F.holds files.old }
+    ensures still { F.tells files.old → F.tells files.new }
+    ensures later { F.faults files.old ≤ F.faults files.new }
+{
+    each_command_does_something();
+    let _topology = parts.topology();
+    match boot(alloc, parts, names, files) {
+        Ok(acted) => tell(out, names, &acted),
+        Err(NoMemory) => Played::NoMemory,
+    }
+}
+
+/// Does a command, number `number` of its script, and writes its text. After a write fault in what a load shows, or for want
+/// of memory, the parts are as before; after a later write fault they are in the state after the command.
+pub fn play<R: Rendezvous, F: Files, S: Sink>(
+    alloc: Global,
+    parts: &mut Parts,
+    command: &Command,
+    number: u32,
+    how: &mut R,
+    files: &mut F,
+    out: &mut S,
+) -> Played
+    requires range { InRange (setting_of parts.old) command.now }
+    requires beats { BeatsInRange (machine_of (setting_of parts.old)).threads command.now }
+    requires most { (machine_of (setting_of parts.old)).threads ≤ R.limit how.old }
+    requires standing { Standing (setting_of parts.old) (state_of parts.old) }
+    ensures played { IsPlayed S.stands S.faults R.lists (λ reads. F.tells files.old → AreHeld (F.holds files.old) reads) (setting_of parts.old) number command.now (F.faults files.old) (F.faults files.new) (R.runs how.old) (R.runs how.new) (state_of parts.old) (state_of parts.new) out.old out.new result }
+    ensures setting { setting_of parts.new ≡ setting_of parts.old }
+    ensures same { F.holds files.new ≡ F.holds files.old }
+    ensures still { F.tells files.old → F.tells files.new }
+    ensures later { F.faults files.old ≤ F.faults files.new }
+    ensures sink_later { S.faults out.old ≤ S.faults out.new }
+    ensures most_stays { R.limit how.new ≡ R.limit how.old }
+{
+    each_command_does_something();
+    let _topology = parts.topology();
+    match put_heading(out, number, command) {
+        Ok(()) => {}
+        Err(_) => return Played::WriteFault,
+    }
+    match command {
+        Command::Boot(names) => play_boot(alloc, parts, names.as_slice(), how, files, out),
+        Command::Load {
+            force,
+            names,
+            beats,
+        } => play_load(
+            alloc,
+            parts,
+            *force,
+            names.as_slice(),
+            beats.as_slice(),
+            how,
+            files,
+            out,
+        ),
+        _ => tell(out, names_in(command), &act(parts, command)),
+    }
+}

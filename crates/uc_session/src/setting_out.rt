@@ -1,0 +1,90 @@
+//! A load, as far as its rendezvous.
+
+ghost use Rattle.std.specs.Prelude.{◌≡◌, ◌≤◌, length, is_some, MatchResult};
+ghost use Rattle.std.specs.List.{list_any};
+ghost use Rattle.session_laws.specs.Standing.{Standing};
+ghost use Rattle.session_parts.specs.Parts.{setting_of, state_of};
+ghost use Rattle.uc_session.specs.Loads.{SetsOut, Stops, SetsOutFrom, StopsFrom};
+
+use arrayvec::ArrayVec;
+use patch_pool::PatchId;
+use session_parts::Parts;
+use session_text::LoadAnswer;
+use std::alloc::Global;
+use uc_bytes::Text;
+use uc_catalog::Catalog;
+use uc_io::Files;
+use update_reads::{FilesAnswer, read_files};
+
+/// What a load sets out with: the entries that were read, the one that each group is offered, and the patch that was put for
+/// it.
+#[derive(Debug, Drop)]
+pub struct Ready {
+    pub catalog: Catalog,
+    pub offers: ArrayVec<Option<u32>, 256>,
+    pub places: ArrayVec<Option<PatchId>, 256>,
+}
+
+/// Why a load does not come to its rendezvous.
+#[derive(Debug, Drop)]
+pub enum Stop {
+    Answer(LoadAnswer),
+    NoMemory,
+}
+
+/// Reads the files of these names, 1 to 16, and puts what the groups are offered. Where it stops the parts are as they were.
+pub fn set_out<F: Files>(
+    alloc: Global,
+    parts: &mut Parts,
+    force: bool,
+    names: &[Text],
+    files: &mut F,
+) -> Result<Ready, Stop>
+    requires few { length names.now ≤ 16 }
+    requires standing { Standing (setting_of parts.old) (state_of parts.old) }
+    ensures answer { MatchResult result (SetsOut (F.tells files.old) (F.holds files.old) (setting_of parts.old) force names.now (F.faults files.old) (F.faults files.new) (state_of parts.old) (state_of parts.new)) (λ stop. Stops (F.tells files.old) (F.holds files.old) (setting_of parts.old) force names.now (F.faults files.old) (F.faults files.new) (state_of parts.old) stop × (state_of parts.new ≡ state_of parts.old)) }
+    ensures setting { setting_of parts.new ≡ setting_of parts.old }
+    ensures same { F.holds files.new ≡ F.holds files.old }
+    ensures still { F.tells files.old → F.tells files.new }
+    ensures later { F.faults files.old ≤ F.faults files.new }
+{
+    if let Some(t) = parts.first_missing() {
+        return Err(Stop::Answer(LoadAnswer::Busy(t)));
+    }
+    match read_files(alloc, names, files) {
+        Ok(catalog) => set_out_from(parts, force, catalog),
+        Err(FilesAnswer::Unread(file)) => Err(Stop::Answer(LoadAnswer::ReadFault(file))),
+        Err(FilesAnswer::Refused(file, fault)) => {
+            Err(Stop::Answer(LoadAnswer::BadFile(file, fault)))
+        }
+        Err(FilesAnswer::NoMemory) => Err(Stop::NoMemory),
+    }
+}
+
+/// Whether some group is offered anything.
+fn something_offered(offers: &[Option<u32>]) -> bool
+    ensures { result ≡ list_any is_some offers.now }
+{
+    offers.iter().any(|offer| offer.is_some())
+}
+
+/// Puts what the groups are offered of a catalogue's entries.
+fn set_out_from(parts: &mut Parts, force: bool, catalog: Catalog) -> Result<Ready, Stop>
+    requires standing { Standing (setting_of parts.old) (state_of parts.old) }
+    ensures answer { MatchResult result (λ ready. SetsOutFrom (setting_of parts.old) force catalog (state_of parts.old) (state_of parts.new) ready) (λ stop. StopsFrom (setting_of parts.old) force catalog (state_of parts.old) stop × (state_of parts.new ≡ state_of parts.old)) }
+    ensures setting { setting_of parts.new ≡ setting_of parts.old }
+{
+    let offers = parts.load_offers(&catalog, force);
+    if something_offered(offers.as_slice()) {
+        match parts.put_load(&catalog, offers.as_slice()) {
+            Ok(places) => Ok(Ready {
+                catalog,
+                offers,
+                places,
+            }),
+            Err(full) => Err(Stop::Answer(LoadAnswer::PoolFull(full.needed))),
+        }
+    } else {
+        Err(Stop::Answer(LoadAnswer::NotFound))
+    }
+}
