@@ -6,3 +6,4 @@ mod Stopping
 mod Offered
 mod Meeting
 mod Loading
+mod InTurn

@@ -8,9 +8,11 @@ mod boots;
 mod loads;
 mod plain;
 mod playing;
+mod running;
 mod sessions;
 mod setting_out;
 mod verdicts;
 
+pub use running::run_session;
 pub use sessions::Session;
 pub use verdicts::verdict;

@@ -1,0 +1,20 @@
+use Rattle.std.proofs.Common.{◌≡◌, ◌≤◌, take}
+use Rattle.session_runs.specs.SoFar.{PlayedSoFar}
+use Rattle.uc_session.specs.Sessions.{setting_of, state_of}
+use Rattle.uc_session.proofs.running.run_session.Given as goal
+
+-- the commands so far were answered, and none of them ended the session
+abbrev pub invariant-loop-place : goal.invariant-loop-place
+invariant-loop-place g l = record {
+  so_far :
+      PlayedSoFar g.S.Sink.stands g.R.Rendezvous.lists (g.F.Pieces.tells l.fn.files) (g.F.Files.holds l.fn.files)
+      (record { machine = l.topology; blocks = l.script.pool; patience = l.script.patience })
+      (take l.place l.script.commands) l.done (state_of l.session) (g.F.Pieces.faults l.fn.files)
+      (g.F.Pieces.faults l.files) (g.R.Rendezvous.runs l.fn.how) (g.R.Rendezvous.runs l.how) l.fn.out l.out;
+  setting : setting_of l.session ≡ record { machine = l.topology; blocks = l.script.pool; patience = l.script.patience };
+  same : g.F.Files.holds l.files ≡ g.F.Files.holds l.fn.files;
+  still : g.F.Pieces.tells l.fn.files → g.F.Pieces.tells l.files;
+  later : g.F.Pieces.faults l.fn.files ≤ g.F.Pieces.faults l.files;
+  sink_later : g.S.Sink.faults l.fn.out ≤ g.S.Sink.faults l.out;
+  most_stays : g.R.Rendezvous.limit l.how ≡ g.R.Rendezvous.limit l.fn.how;
+}
