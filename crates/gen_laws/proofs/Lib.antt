@@ -4,3 +4,4 @@ mod Counted
 mod Body
 mod Topology
 mod Script
+mod Lengths

@@ -1,10 +1,10 @@
 //! Laws of generated input: whatever the number, the generated topology states a machine, and the generated script a
-//! script for it. Each law is the contract of a function that does nothing.
+//! script for it, and both are short. Each law is the contract of a function that does nothing.
 #![tactic(auto)]
 
 mod laws;
 
-pub use laws::{generated_script_is_read, generated_topology_is_read};
+pub use laws::{generated_script_is_read, generated_texts_are_short, generated_topology_is_read};
 
 #[cfg(test)]
 mod tests;
