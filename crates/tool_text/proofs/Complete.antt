@@ -9,7 +9,7 @@ use Rattle.file_reads.specs.Reads.{Read, AreHeld, Outcome, AllRead, NotRead}
 use Rattle.file_reads.proofs.Outcomes.{all_or_not_read, held_head, held_tail}
 use Rattle.top_call.specs.declared.status.Status.{Status}
 use Rattle.top_call.specs.declared.status.Status.TheVariants.{Done, BadInput, ReadFault}
-use Rattle.tool_text.specs.Words.{Asked, Faulty, ListOf, ShowOf, SelectOf}
+use Rattle.tool_text.specs.Words.{Asked, Faulty, ListOf, ShowOf, SelectOf, PlayOf}
 use Rattle.tool_text.specs.Commands.{entries_of_all, StopsAt, Listed, Shown, Selected, FailsAt}
 use Rattle.tool_text.specs.Tool.{AskedText, CanBeDone}
 
@@ -90,3 +90,4 @@ module _ (holds : List ℕ → List ℕ) (reads : List Read) (held : AreHeld hol
   complete (SelectOf topology names) files text status can (inr is) =
       let behind = behind_held topology is.bytes is.behind is.first in
       selected_ends is.machine can.2.0 is.outcome text status (all_or_not_read names holds can.2.0 is.behind is.outcome can.2.1 behind is.come) is.selected
+  complete (PlayOf topology script) files text status can is = absurd can

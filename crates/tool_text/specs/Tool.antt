@@ -7,8 +7,9 @@ use Rattle.file_entries.specs.Reading.{Reading}
 use Rattle.file_reads.specs.Accepts.{AreAccepted, IsMachine}
 use Rattle.file_reads.specs.Reads.{Read, AreHeld}
 use Rattle.report_text.specs.Lines.{usage_line}
-use Rattle.tool_text.specs.Words.{Asked, Faulty, ListOf, ShowOf, SelectOf, asked}
+use Rattle.tool_text.specs.Words.{Asked, Faulty, ListOf, ShowOf, SelectOf, PlayOf, asked}
 use Rattle.tool_text.specs.Commands.{ListText, ShowText, SelectText, entries_of_all}
+use Rattle.tool_text.specs.Plays.{PlayText}
 
 -- the texts for what a command line asks for, by the reads that were made
 abbrev pub AskedText : Asked → List Read → Option ℕ → List ℕ → Status → Type 0
@@ -17,6 +18,7 @@ AskedText (Faulty i) reads files text status = ⊥
 AskedText (ListOf names) reads files text status = ListText names reads files text status
 AskedText (ShowOf name number) reads files text status = ShowText name number reads files text status
 AskedText (SelectOf topology names) reads files text status = SelectText topology names reads files text status
+AskedText (PlayOf topology script) reads files text status = PlayText topology script reads files text status
 
 -- the texts for the words of a command line
 abbrev pub ToolText : List (List ℕ) → List Read → Option ℕ → List ℕ → Status → Type 0
@@ -34,7 +36,8 @@ UsageCause (Faulty i) status = (status ≡ Usage i) ⊎ (status ≡ WriteFault)
 UsageCause line (Usage k) = ⊥
 UsageCause line status = Unit {0}
 
--- what is asked for can be done: every file has a reading within its limit, and a number is that of an entry
+-- What is asked for can be done: every file has a reading within its limit, and a number is that of an entry. Nothing is said
+-- so of a session.
 abbrev pub CanBeDone : Asked → (List ℕ → List ℕ) → Type 0
 CanBeDone (Faulty i) holds = ⊥
 CanBeDone (ListOf names) holds = (readings : List Reading) × AreAccepted (map holds names) readings
@@ -42,3 +45,4 @@ CanBeDone (ShowOf name number) holds =
     (readings : List Reading) × AreAccepted (holds name ∷ []) readings × (number < length (entries_of_all readings))
 CanBeDone (SelectOf topology names) holds =
     (machine : Machine) × IsMachine (holds topology) machine × ((readings : List Reading) × AreAccepted (map holds names) readings)
+CanBeDone (PlayOf topology script) holds = ⊥

@@ -2,6 +2,7 @@
 --   list    one to 16 names of update files
 --   show    the name of an update file, and the number of an entry
 --   select  the name of a topology, and one to 16 names of update files
+--   play    the names of a topology and of a script
 -- No name begins with a dash, and a number has one of the spellings of numbers.
 use Rattle.std.specs.Prelude.{ℕ, ◌+◌, ◌==◌, ◌&&◌, nat_lt, nat_le, Bool, true, false, not, List, [], ◌∷◌, Option, Some, None, is_some, if◌then◌else◌, codes}
 use Rattle.std.specs.Str.{bytes_eq}
@@ -15,6 +16,7 @@ pub data Asked : Type 0 where
   ListOf : List (List ℕ) → Asked
   ShowOf : List ℕ → ℕ → Asked
   SelectOf : List ℕ → List (List ℕ) → Asked
+  PlayOf : List ℕ → List ℕ → Asked
 
 -- the word may stand for the name of a file
 abbrev pub is_name : List ℕ → Bool
@@ -54,10 +56,15 @@ abbrev pub select_of : List (List ℕ) → Asked
 select_of (topology ∷ names) = SelectOf topology names
 select_of words = Faulty 0
 
+abbrev pub play_of : List (List ℕ) → Asked
+play_of (topology ∷ script ∷ words) = PlayOf topology script
+play_of words = Faulty 0
+
 -- the words after the program's name
 abbrev pub asked : List (List ℕ) → Asked
 asked [] = Faulty 0
 asked (command ∷ words) =
     if bytes_eq command (codes "list") then unless_wrong (wrong_word (may_name MOST_FILES) 2 1 words) (ListOf words) else
     if bytes_eq command (codes "show") then unless_wrong (wrong_word may_show 3 1 words) (show_of words) else
-    if bytes_eq command (codes "select") then unless_wrong (wrong_word (may_name (1 + MOST_FILES)) 3 1 words) (select_of words) else Faulty 0
+    if bytes_eq command (codes "select") then unless_wrong (wrong_word (may_name (1 + MOST_FILES)) 3 1 words) (select_of words) else
+    if bytes_eq command (codes "play") then unless_wrong (wrong_word (may_name 2) 3 1 words) (play_of words) else Faulty 0

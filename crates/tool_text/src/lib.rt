@@ -24,7 +24,9 @@ pub const MOST_FILES: u32 = 16;
 /// Whatever the words and the files are, there is a text for a run in which no read fails and each gives what is held.
 pub fn some_text()
     ensures { (words : List (List ℕ)) (holds : List ℕ → List ℕ) → HasText (FromReads (Unit {0}) holds (ToolText words)) }
-{}
+{
+    some_session_text();
+}
 
 /// Whatever the files hold, there is a text for a session that is played, and for each number one of the session that is
 /// generated from it, for a run in which no read fails and each gives what is held.

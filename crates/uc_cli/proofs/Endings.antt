@@ -13,14 +13,14 @@ use Rattle.report_text.specs.Lines.{unread_line, fault_line, topology_line}
 use Rattle.file_reads.specs.Reads.{Read, NotRead, Refused, ReadsOf}
 use Rattle.file_reads.proofs.Outcomes.{held_nil, held_one}
 use Rattle.tool_text.specs.Words.{Asked}
-use Rattle.tool_text.specs.Commands.{SelectText}
+use Rattle.tool_text.specs.Commands.{FailsAt}
 use Rattle.tool_text.specs.Tool.{AskedText, FromReads, CanBeDone}
-use Rattle.tool_text.proofs.SomeText.{select_text, whether_told}
+use Rattle.tool_text.proofs.SomeText.{whether_told}
 use Rattle.tool_text.proofs.Complete.{IsEnd, complete}
 use Rattle.uc_cli.specs.Reading.{AreUpdatesRead, IsTopologyRead}
 use Rattle.uc_cli.specs.Refusal.{line_of, status_of}
 use Rattle.uc_cli.specs.declared.refusal.Refusal.{Refusal}
-use Rattle.uc_cli.specs.declared.refusal.Refusal.TheVariants.{Unread, BadFile, BadTopology, NoEntry, NoMemory}
+use Rattle.uc_cli.specs.declared.refusal.Refusal.TheVariants.{Unread, BadFile, BadTopology, BadScript, NoEntry, NoMemory}
 
 pub no_file : {P : Type 0} → IsSome {T = ℕ} None → P
 no_file some = absurd (false≢true some)
@@ -68,6 +68,7 @@ module _ {D : Type 0} (stands : D → List ℕ → Type 0) (faults : D → ℕ) 
   files_refused texts tells names holds before now (BadFile name fault) status has unread bad read ends =
       bad_written texts (Rose before now) (fault_line name.now fault.offset fault.cause) status (bad name.now fault.offset fault.cause read.1) ends
   files_refused texts tells names holds before now (BadTopology fault) status has unread bad read ends = absurd read
+  files_refused texts tells names holds before now (BadScript fault) status has unread bad read ends = absurd read
   files_refused texts tells names holds before now (NoEntry number) status has unread bad read ends = absurd read
   files_refused texts tells names holds before now NoMemory status has unread bad read ends =
       memory_written texts (Rose before now) status has ends
@@ -78,31 +79,34 @@ module _ {D : Type 0} (stands : D → List ℕ → Type 0) (faults : D → ℕ) 
   files_cause tells names holds before now (Unread name) read = (read.0, tt)
   files_cause tells names holds before now (BadFile name fault) read = (read.0, tt)
   files_cause tells names holds before now (BadTopology fault) read = absurd read
+  files_cause tells names holds before now (BadScript fault) read = absurd read
   files_cause tells names holds before now (NoEntry number) read = absurd read
   files_cause tells names holds before now NoMemory read = (tt, tt)
 
-  -- a run that did not get its topology
-  pub topology_refused : (tells : Type 0) (topology : List ℕ) (names : List (List ℕ)) (holds : List ℕ → List ℕ) (before now : ℕ) (refusal : Refusal) (status : Status)
-      → IsTopologyRead tells topology (holds topology) before now (Err refusal) → Ends stands faults old new (line_of refusal) (status_of refusal) status
-      → Written (FromReads tells holds (SelectText topology names)) (Rose before now) stands old new status
-  topology_refused tells topology names holds before now (Unread name) status read ends =
-      unread_written (FromReads tells holds (SelectText topology names)) (Rose before now) 0 (unread_line name.now) status read.0
-      (record { reads = []; held = λ told. held_nil holds; is_text = inl (refl, refl, ap unread_line read.1) })
+  -- a run that did not get its topology, by texts in which such ends are
+  pub topology_refused : (texts : List Read → Option ℕ → List ℕ → Status → Type 0) (tells : Type 0) (topology : List ℕ) (holds : List ℕ → List ℕ) (before now : ℕ) (refusal : Refusal) (status : Status)
+      → ((reads : List Read) (files : Option ℕ) (text : List ℕ) (ends : Status) → FailsAt topology reads files text ends → texts reads files text ends) → HasText (FromReads (Unit {0}) holds texts)
+      → IsTopologyRead tells topology (holds topology) before now (Err refusal) → Ends stands faults old new (line_of refusal) (status_of refusal) status → Written (FromReads tells holds texts) (Rose before now) stands old new status
+  topology_refused texts tells topology holds before now (Unread name) status fails has read ends =
+      unread_written (FromReads tells holds texts) (Rose before now) 0 (unread_line name.now) status read.0
+      (record { reads = []; held = λ told. held_nil holds; is_text = fails [] (Some 0) (unread_line name.now) statuses.ReadFault (refl, refl, ap unread_line read.1) })
       ends
-  topology_refused tells topology names holds before now (BadFile name fault) status read ends = absurd read
-  topology_refused tells topology names holds before now (BadTopology fault) status read ends =
+  topology_refused texts tells topology holds before now (BadFile name fault) status fails has read ends = absurd read
+  topology_refused texts tells topology holds before now (BadTopology fault) status fails has read ends =
       let bytes = read.1.0 in
       let first : Read = record { name = topology; bytes = bytes } in
-      bad_written (FromReads tells holds (SelectText topology names)) (Rose before now) (topology_line fault.line fault.cause) status
+      bad_written (FromReads tells holds texts) (Rose before now) (topology_line fault.line fault.cause) status
       (record {
         reads = first ∷ [];
         held = λ told. held_one holds first (read.1.1 told);
-        is_text = inl (record { bytes = bytes; only = refl; line = fault.line; cause = fault.cause; refuses = read.1.2; lines = refl });
+        is_text = fails (first ∷ []) None (topology_line fault.line fault.cause) statuses.BadInput
+            (record { bytes = bytes; only = refl; line = fault.line; cause = fault.cause; refuses = read.1.2; lines = refl });
       })
       ends
-  topology_refused tells topology names holds before now (NoEntry number) status read ends = absurd read
-  topology_refused tells topology names holds before now NoMemory status read ends =
-      memory_written (FromReads tells holds (SelectText topology names)) (Rose before now) status (whether_told holds (SelectText topology names) (select_text topology names holds)) ends
+  topology_refused texts tells topology holds before now (BadScript fault) status fails has read ends = absurd read
+  topology_refused texts tells topology holds before now (NoEntry number) status fails has read ends = absurd read
+  topology_refused texts tells topology holds before now NoMemory status fails has read ends =
+      memory_written (FromReads tells holds texts) (Rose before now) status (whether_told holds texts has) ends
 
 -- a status that is no end of a run that could be done
 not_end : (status : Status) → (code_of status ≡ 0 → ⊥) → (code_of status ≡ 4 → ⊥) → IsEnd status → ⊥

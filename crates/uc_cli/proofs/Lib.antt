@@ -1,3 +1,4 @@
 mod Endings
 mod Groups
 mod Names
+mod Playing

@@ -1,3 +1,4 @@
+pub mod Playing
 pub mod Reading
 pub mod Refusal
 pub mod Selecting

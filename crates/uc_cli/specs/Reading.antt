@@ -5,9 +5,12 @@ use Rattle.uc_topology.specs.Stated.{Machine}
 use Rattle.uc_catalog.specs.Contents.{Contents}
 use Rattle.file_reads.specs.Accepts.{IsMachine, RefusesTopology}
 use Rattle.file_reads.specs.Reads.{NotRead, Refused, ReadsOf}
+use Rattle.script_text.specs.declared.forms.Limits.{Limits}
+use Rattle.script_text.specs.Stated.{Stated}
+use Rattle.script_report.specs.Accepts.{IsScript, RefusesScript}
 use Rattle.update_reads.specs.Reading.{IsOfFiles}
 use Rattle.uc_cli.specs.declared.refusal.Refusal.{Refusal}
-use Rattle.uc_cli.specs.declared.refusal.Refusal.TheVariants.{Unread, BadFile, BadTopology, NoMemory}
+use Rattle.uc_cli.specs.declared.refusal.Refusal.TheVariants.{Unread, BadFile, BadTopology, BadScript, NoMemory}
 
 -- all update files stand in the catalogue, or the first that is not read or is refused decides
 abbrev pub AreUpdatesRead : Type 0 → List (List ℕ) → (List ℕ → List ℕ) → ℕ → ℕ → Result Contents Refusal → Type 0
@@ -28,3 +31,13 @@ IsTopologyRead tells name held before now (Err (BadTopology fault)) =
     (now ≡ before) × ((bytes : List ℕ) × (tells → bytes ≡ held) × RefusesTopology bytes fault.line fault.cause)
 IsTopologyRead tells name held before now (Err NoMemory) = now ≡ before
 IsTopologyRead tells name held before now (Err refusal) = ⊥
+
+-- the script that the bytes of a file state for a machine, or why it is refused
+abbrev pub IsScriptRead : Type 0 → Limits → List ℕ → List ℕ → ℕ → ℕ → Result Stated Refusal → Type 0
+IsScriptRead tells limits name held before now (Ok script) =
+    (now ≡ before) × ((bytes : List ℕ) × (tells → bytes ≡ held) × IsScript limits bytes script)
+IsScriptRead tells limits name held before now (Err (Unread which)) = Rose before now × (which.now ≡ name)
+IsScriptRead tells limits name held before now (Err (BadScript fault)) =
+    (now ≡ before) × ((bytes : List ℕ) × (tells → bytes ≡ held) × RefusesScript limits bytes fault.line fault.cause)
+IsScriptRead tells limits name held before now (Err NoMemory) = now ≡ before
+IsScriptRead tells limits name held before now (Err refusal) = ⊥

@@ -4,14 +4,16 @@ use Rattle.top_call.specs.declared.status.Status.{Status}
 use Rattle.top_call.specs.declared.status.Status.TheVariants as statuses
 use Rattle.top_call.specs.Written.{memory_line}
 use Rattle.report_text.specs.Lines.{unread_line, fault_line, topology_line, no_entry_line}
+use Rattle.script_report.specs.Lines.{script_line}
 use Rattle.uc_cli.specs.declared.refusal.Refusal.{Refusal}
-use Rattle.uc_cli.specs.declared.refusal.Refusal.TheVariants.{Unread, BadFile, BadTopology, NoEntry, NoMemory}
+use Rattle.uc_cli.specs.declared.refusal.Refusal.TheVariants.{Unread, BadFile, BadTopology, BadScript, NoEntry, NoMemory}
 
 -- what is written of a refusal
 abbrev pub line_of : Refusal → List ℕ
 line_of (Unread name) = unread_line name.now
 line_of (BadFile name fault) = fault_line name.now fault.offset fault.cause
 line_of (BadTopology fault) = topology_line fault.line fault.cause
+line_of (BadScript fault) = script_line fault.line fault.cause
 line_of (NoEntry number) = no_entry_line number
 line_of NoMemory = memory_line
 
@@ -20,5 +22,6 @@ abbrev pub status_of : Refusal → Status
 status_of (Unread name) = statuses.ReadFault
 status_of (BadFile name fault) = statuses.BadInput
 status_of (BadTopology fault) = statuses.BadInput
+status_of (BadScript fault) = statuses.BadInput
 status_of (NoEntry number) = statuses.BadInput
 status_of NoMemory = statuses.NoMemory

@@ -3,6 +3,7 @@
 #![tactic(auto)]
 
 mod list;
+mod play;
 mod reading;
 mod refusal;
 mod select;

@@ -1,13 +1,17 @@
 //! The reading of files, with the names of those that are not read or are refused.
 ghost use Rattle.std.specs.Prelude.{◌≡◌, ◌≤◌, length};
-ghost use Rattle.uc_cli.specs.Reading.{AreUpdatesRead, IsTopologyRead};
+ghost use Rattle.uc_cli.specs.Reading.{AreUpdatesRead, IsTopologyRead, IsScriptRead};
+ghost use Rattle.tool_text.specs.Plays.{limits_of};
 
 use crate::refusal::Refusal;
 use file_reads::TOPOLOGY_LIMIT;
+use script_report::SCRIPT_LIMIT;
+use script_text::{Script, ScriptCause, ScriptFault};
 use std::alloc::Global;
 use uc_bytes::Text;
 use uc_catalog::Catalog;
 use uc_io::{Files, ReadAnswer};
+use uc_script::{ScriptAnswer, read_script};
 use uc_topology::{TopoCause, TopoFault, Topology, read_topology};
 use update_reads::{FilesAnswer, read_files};
 
@@ -59,5 +63,35 @@ pub fn read_machine<'a, F: Files>(
     match read_topology(bytes.as_slice()) {
         Ok(topology) => Ok(topology),
         Err(fault) => Err(Refusal::BadTopology(fault)),
+    }
+}
+
+/// Reads the script of a name, for a machine.
+pub fn read_commands<'a, F: Files>(
+    alloc: Global,
+    name: &'a Text,
+    machine: &Topology,
+    files: &mut F,
+) -> Result<Script, Refusal<'a>>
+    ensures answer { IsScriptRead (F.tells files.old) (limits_of machine.now) name.now (F.holds files.old name.now) (F.faults files.old) (F.faults files.new) result }
+    ensures same { F.holds files.new ≡ F.holds files.old }
+    ensures still { F.tells files.old → F.tells files.new }
+    ensures later { F.faults files.old ≤ F.faults files.new }
+{
+    let bytes = match files.read(alloc, name.as_str(), SCRIPT_LIMIT) {
+        Ok(bytes) => bytes,
+        Err(ReadAnswer::Failed) => return Err(Refusal::Unread(name)),
+        Err(ReadAnswer::TooLong(_)) => {
+            return Err(Refusal::BadScript(ScriptFault {
+                line: 0,
+                cause: ScriptCause::TooLong,
+            }));
+        }
+        Err(ReadAnswer::NoMemory) => return Err(Refusal::NoMemory),
+    };
+    match read_script(alloc, bytes.as_slice(), machine.threads(), machine.cores()) {
+        Ok(script) => Ok(script),
+        Err(ScriptAnswer::Fault(fault)) => Err(Refusal::BadScript(fault)),
+        Err(ScriptAnswer::NoMemory) => Err(Refusal::NoMemory),
     }
 }

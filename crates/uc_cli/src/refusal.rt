@@ -4,6 +4,8 @@ ghost use Rattle.uc_io.specs.Writing.{Writes};
 ghost use Rattle.top_call.specs.Written.{Ends, memory_line};
 ghost use Rattle.uc_cli.specs.Refusal.{line_of, status_of};
 
+use script_report::put_script_fault;
+use script_text::ScriptFault;
 use top_call::{Status, after_write};
 use uc_bytes::{FileFault, Text};
 use uc_io::{Sink, SinkFailed, write_line};
@@ -19,6 +21,8 @@ pub enum Refusal<'a> {
     BadFile(&'a Text, FileFault),
     /// The topology states nothing, or is longer than allowed.
     BadTopology(TopoFault),
+    /// The script states nothing, or is longer than allowed.
+    BadScript(ScriptFault),
     /// No entry has this number.
     NoEntry(u64),
     NoMemory,
@@ -41,6 +45,7 @@ pub fn refuse<S: Sink>(out: &mut S, refusal: Refusal<'_>) -> Status
         Refusal::BadTopology(fault) => {
             after_write(Status::BadInput, put_topology_fault(out, fault))
         }
+        Refusal::BadScript(fault) => after_write(Status::BadInput, put_script_fault(out, fault)),
         Refusal::NoEntry(number) => after_write(Status::BadInput, put_no_entry(out, number)),
         Refusal::NoMemory => after_write(Status::NoMemory, put_memory(out)),
     }

@@ -6,6 +6,7 @@ use uc_io::{MemFiles, MemSink};
 
 mod faults;
 mod lists;
+mod plays;
 mod selections;
 
 /// Room for each text of these tests.

@@ -8,6 +8,7 @@ ghost use Rattle.tool_text.specs.Words.{asked};
 ghost use Rattle.uc_cli.specs.Words.{asked_of, HasFewNames};
 
 use crate::list::list;
+use crate::play::play;
 use crate::select::select;
 use crate::show::show;
 use crate::words::{Command, read_words};
@@ -32,6 +33,7 @@ fn run<F: Files, S: Sink>(alloc: Global, command: Command<'_>, files: &mut F, ou
         Command::List(names) => list(alloc, names, files, out),
         Command::Show(name, number) => show(alloc, name, number, files, out),
         Command::Select(topology, names) => select(alloc, topology, names, files, out),
+        Command::Play(topology, script) => play(alloc, topology, script, files, out),
     }
 }
 

@@ -1,6 +1,6 @@
 //! The rule of the command line.
 ghost use Rattle.std.specs.Prelude.{◌≡◌, ◌+◌, ◌≤◌, ◌<◌, Ok, Err, length, MatchResult, IfOk};
-ghost use Rattle.tool_text.specs.Words.{Asked, ListOf, asked, is_name, may_name, may_show, wrong_word, unless_wrong, show_of, select_of, Faulty};
+ghost use Rattle.tool_text.specs.Words.{Asked, ListOf, asked, is_name, may_name, may_show, wrong_word, unless_wrong, show_of, select_of, play_of, Faulty};
 ghost use Rattle.uc_cli.specs.Words.{Asks, HasFewNames};
 
 use tool_text::MOST_FILES;
@@ -16,6 +16,8 @@ pub enum Command<'a> {
     Show(&'a Text, u64),
     /// `select TOPOLOGY FILE..`
     Select(&'a Text, &'a [Text]),
+    /// `play TOPOLOGY SCRIPT`
+    Play(&'a Text, &'a Text),
 }
 
 /// Whether a word may stand for the name of a file.
@@ -95,6 +97,26 @@ fn select_words(words: &[Text]) -> Result<Command<'_>, u32>
     }
 }
 
+/// The words behind `play`.
+fn play_words(words: &[Text]) -> Result<Command<'_>, u32>
+    ensures asks { Asks (unless_wrong (wrong_word (may_name 2) 3 1 words.now) (play_of words.now)) result }
+    ensures few { IfOk result HasFewNames }
+{
+    match words {
+        [] => Err(1),
+        [topology, ..] if !is_name(topology) => Err(1),
+        [_topology] => Err(2),
+        [_, script, ..] if !is_name(script) => Err(2),
+        [topology, script, more @ ..] => {
+            if more.is_empty() {
+                Ok(Command::Play(topology, script))
+            } else {
+                Err(3)
+            }
+        }
+    }
+}
+
 /// The command that the words ask for, or the index of the first word that cannot stand in its place, which is the number
 /// of words where one is missing.
 pub fn read_words(words: &[Text]) -> Result<Command<'_>, u32>
@@ -108,6 +130,7 @@ pub fn read_words(words: &[Text]) -> Result<Command<'_>, u32>
         "list" => list_words(rest),
         "show" => show_words(rest),
         "select" => select_words(rest),
+        "play" => play_words(rest),
         _ => Err(0),
     }
 }

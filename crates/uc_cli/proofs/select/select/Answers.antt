@@ -1,4 +1,4 @@
-use Rattle.std.proofs.Common.{ℕ, suc, ◌≡◌, List, ◌∷◌, Err, inr, length, refl, subst}
+use Rattle.std.proofs.Common.{ℕ, suc, ◌≡◌, List, ◌∷◌, Err, inl, inr, length, refl, subst}
 use Rattle.top_call.specs.declared.status.Status.TheVariants.{Done}
 use Rattle.top_call.proofs.Endings.{Ends-written}
 use Rattle.file_entries.specs.Entry.{Entry}
@@ -21,7 +21,11 @@ held_behind tells told before holds topology bytes reads still same first behind
 
 pub returns-in-Err-clause-written : goal.returns-in-Err-clause-written
 returns-in-Err-clause-written g c =
-    topology_refused g.S.Sink.stands g.S.Sink.faults _ _ _ c.args.topology.now c.args.names.now (g.F.Files.holds c.args.files.now) _ _ c.in-Err.refusal _ c.in-Err.ensures.answer c.refuse.ensures
+    let topology = c.args.topology.now in
+    let names = c.args.names.now in
+    let holds = g.F.Files.holds c.args.files.now in
+    topology_refused g.S.Sink.stands g.S.Sink.faults _ _ (SelectText topology names) _ topology holds _ _ c.in-Err.refusal _ (λ reads files text status fails. inl fails) (select_text topology names holds) c.in-Err.ensures.answer
+    c.refuse.ensures
 
 pub returns-in-Ok-read_updates-clause-written : goal.returns-in-Ok-read_updates-clause-written
 returns-in-Ok-read_updates-clause-written g c =

@@ -8,3 +8,6 @@ returns-in-Show-clause-written g c = rw c.in-Show.is c.show.ensures.written
 
 pub returns-in-Select-clause-written : goal.returns-in-Select-clause-written
 returns-in-Select-clause-written g c = rw c.in-Select.is c.select.ensures.written
+
+pub returns-in-Play-clause-written : goal.returns-in-Play-clause-written
+returns-in-Play-clause-written g c = rw c.in-Play.is c.play.ensures.written

@@ -1,0 +1,63 @@
+use super::*;
+
+/// A script of one load, whose schedule line is given.
+fn one_load(alloc: Global, schedule: &str, end: &str) -> Result<String, AllocError> {
+    format!(in alloc; "ucode-script 1\nboot\nload a.bin\n{schedule}\n{end}")
+}
+
+#[test]
+fn names_the_first_fault_of_a_script_and_plays_nothing(rt: HostRuntime) -> Result<(), Fail> {
+    let alloc = rt.alloc();
+    let table = [
+        (one_load(alloc, "*28", "")?, "error script line 3 no-end\n"),
+        (
+            one_load(alloc, "s1", "end\n")?,
+            "error script line 4 range\n",
+        ),
+        (
+            one_load(alloc, "suspend", "end\n")?,
+            "error script line 4 number\n",
+        ),
+        (
+            one_load(alloc, "boot", "end\n")?,
+            "error script line 4 word\n",
+        ),
+        (String::new(alloc), "error script line 0 head\n"),
+    ];
+    for (script, text) in &table {
+        assert!(rt;
+            answers(
+                alloc,
+                "s",
+                script.as_str().as_bytes(),
+                "play t1 s",
+                Status::BadInput,
+                text
+            )?,
+            "{text}"
+        );
+    }
+    Ok(())
+}
+
+#[test]
+fn reads_the_topology_before_the_script(rt: HostRuntime) -> Result<(), Fail> {
+    let alloc = rt.alloc();
+    let table = [
+        ("play none none", Status::ReadFault, "error read none\n"),
+        ("play t1 missing", Status::ReadFault, "error read missing\n"),
+        (
+            "play e.bin missing",
+            Status::BadInput,
+            "error topology line 0 head\n",
+        ),
+    ];
+    for (line, status, text) in &table {
+        let mut files = sample_files(alloc)?;
+        let mut out = MemSink::new(alloc, ROOM)?;
+        let found = run(alloc, line, &mut files, &mut out)?;
+        assert_eq!(rt; found, *status, "{line}");
+        assert_eq!(rt; out.bytes(), text.as_bytes(), "{line}");
+    }
+    Ok(())
+}
