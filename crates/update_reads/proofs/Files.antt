@@ -31,20 +31,20 @@ entries_push : (number : ℕ) (rs : List Reading) (r : Reading) → entries_from
 entries_push number [] r = append-nil (entries_of number r) ∙ ap (λ (n : ℕ). entries_of n r) (omega arith)
 entries_push number (s ∷ rs) r =
     ap (λ (l : List Entry). entries_of number s ++ l) (entries_push (number + 1)
-        rs r ∙ ap (λ (n : ℕ). entries_from (number + 1) rs ++ entries_of n r) (omega arith))
+    rs r ∙ ap (λ (n : ℕ). entries_from (number + 1) rs ++ entries_of n r) (omega arith))
     ∙ sym (append_assoc (entries_of number s) (entries_from (number + 1) rs) (entries_of (number + suc (length rs)) r))
 
 names_more : (names : List (List ℕ)) (i : ℕ) (name : List ℕ) → slice_get names i ≡ Some name → take (i + 1)
     names ≡ take i names ++ name ∷ []
 names_more names i name at =
     take_more names i name (slice_get_within names i name at) ∙ ap (λ (n : List ℕ). take i names ++ n ∷ [])
-        (get_or_from_slice_get names i name name at)
+    (get_or_from_slice_get names i name name at)
 
 names_split : (names : List (List ℕ)) (i : ℕ) (name : List ℕ) → slice_get names i ≡ Some name →
     names ≡ take i names ++ name ∷ drop (suc i) names
 names_split names i name at =
     split_at names i name (slice_get_within names i name at) ∙ ap (λ (n : List ℕ). take i names ++ n ∷ drop (suc i)
-        names) (get_or_from_slice_get names i name name at)
+    names) (get_or_from_slice_get names i name name at)
 
 module _ (tells : Type 0) (names : List (List ℕ)) (holds : List ℕ → List ℕ) where
   -- no file yet
@@ -64,13 +64,13 @@ module _ (tells : Type 0) (names : List (List ℕ)) (holds : List ℕ → List �
       AreReadings contents.files of.readings
   readings_of contents of =
       subst (λ (files : List (List ℕ)). AreReadings files of.readings) (sym of.files)
-          (are_readings (files_of of.reads) of.readings of.accepted)
+      (are_readings (files_of of.reads) of.readings of.accepted)
 
   -- how many files it has
   pub files_count : (contents : Contents) → IsOfFiles tells names holds contents → length contents.files ≡ length names
   files_count contents of =
       ap length of.files ∙ length-map of.reads (λ (read : Read). read.bytes)
-          ∙ sym (length-map of.reads (λ (read : Read). read.name)) ∙ ap length of.in_order
+      ∙ sym (length-map of.reads (λ (read : Read). read.name)) ∙ ap length of.in_order
 
   -- the file of one name more
   pub one_more : (old new : Contents) (bytes : List ℕ) (i : ℕ) (name : List ℕ) → IsOfFiles tells (take i names)
@@ -81,7 +81,7 @@ module _ (tells : Type 0) (names : List (List ℕ)) (holds : List ℕ → List �
       let rs = of.readings in
       let read : Read = record { name = name; bytes = bytes } in
       let number : length rs ≡ length old.files = accepted_length (files_of of.reads)
-          rs of.accepted ∙ sym (ap length of.files) in
+      rs of.accepted ∙ sym (ap length of.files) in
       let place : length old.files ≡ 0 + length rs = omega (arith, number) in
       record {
         reads = of.reads ++ read ∷ [];
@@ -91,20 +91,22 @@ module _ (tells : Type 0) (names : List (List ℕ)) (holds : List ℕ → List �
         readings = rs ++ adds.reading ∷ [];
         accepted = subst (λ (files : List (List ℕ)). AreAccepted files (rs ++ adds.reading ∷ []))
             (sym (map-append (λ (r : Read). r.bytes) of.reads (read ∷ [])))
-            (accepted_push (files_of of.reads) rs bytes adds.reading of.accepted (record { within = within;
-                is_reading = adds.is_reading }));
+            (accepted_push (files_of of.reads) rs bytes adds.reading of.accepted (record {
+              within = within;
+              is_reading = adds.is_reading;
+            }));
         files = adds.files ∙ ap (λ (l : List (List ℕ)). l ++ bytes ∷ [])
             of.files ∙ sym (map-append (λ (r : Read). r.bytes) of.reads (read ∷ []));
         entries = adds.entries ∙ ap (λ (l : List Entry). l ++ entries_of (length old.files) adds.reading) of.entries
             ∙ ap (λ (n : ℕ). entries_from 0 rs ++ entries_of n adds.reading)
-                place ∙ sym (entries_push 0 rs adds.reading);
+            place ∙ sym (entries_push 0 rs adds.reading);
       }
 
   reads_count : (contents : Contents) (i : ℕ) → i < length names → (of : IsOfFiles tells (take i names)
       holds contents) → length of.reads ≡ i
   reads_count contents i inside of =
       sym (length-map of.reads (λ (read : Read). read.name)) ∙ ap length of.in_order ∙ length-take-le i names (omega
-          (arith, inside))
+      (arith, inside))
 
   comes_to : (contents : Contents) (i : ℕ) (name : List ℕ) (of : IsOfFiles tells (take i names) holds contents) →
       slice_get names i ≡ Some name → ComesTo names of.reads name
@@ -137,8 +139,13 @@ module _ (tells : Type 0) (names : List (List ℕ)) (holds : List ℕ → List �
         reads = of.reads ++ read ∷ [];
         held = λ tell. held_append holds of.reads (read ∷ []) (of.held tell) (held_one holds read (told tell));
         name = name;
-        come = record { before = of.reads; bytes = bytes; last = refl; comes = comes_to contents i name of at;
-            refuses = refuses };
+        come = record {
+          before = of.reads;
+          bytes = bytes;
+          last = refl;
+          comes = comes_to contents i name of at;
+          refuses = refuses;
+        };
         place = omega (arith, length-append of.reads (read ∷ []), reads_count contents i inside of);
       }
 
@@ -146,13 +153,15 @@ module _ (tells : Type 0) (names : List (List ℕ)) (holds : List ℕ → List �
       holds contents → slice_get names i ≡ Some name → (told : Type 0) (held : List ℕ) (first before now : ℕ)
       (old new : Contents)
       (answer : UpdateAnswer) → (tells → told) → held ≡ holds name → before ≡ first →
-          IsUpdateRead told held before now old new (Err answer) →
-          AreFilesRead tells names holds first now (Err (in_place i answer))
+      IsUpdateRead told held before now old new (Err answer) →
+      AreFilesRead tells names holds first now (Err (in_place i answer))
   stops contents i name inside of at told held first before now old new ReadFault still same count read =
       (subst (λ (b : ℕ). Rose b now) count read.0, not_read contents i name inside of at)
-  stops contents i name inside of at told held first before now old new (BadFile fault) still same count read =
-      (read.0 ∙ count, refused contents i name read.1.0 fault inside of at (λ tell. read.1.1 (still tell) ∙ same)
-          read.1.2)
+  stops contents i name inside of at told held first before now old new (BadFile fault) still same count read = (
+    read.0 ∙ count,
+    refused contents i name read.1.0 fault inside of at (λ tell. read.1.1 (still tell) ∙ same)
+        read.1.2,
+  )
   stops contents i name inside of at told held first before now old new NoMemory still same count read = read.0 ∙ count
 
   -- it ends the reading of the files, with its place
@@ -160,10 +169,10 @@ module _ (tells : Type 0) (names : List (List ℕ)) (holds : List ℕ → List �
       IsOfFiles tells (take i names) holds contents → slice_get names i ≡ Some name → (told : Type 0) (held : List ℕ)
       (first before now : ℕ) (old new : Contents)
       (answer : UpdateAnswer) (result : FilesAnswer) → result ≡ in_place place answer → (tells → told) →
-          held ≡ holds name → before ≡ first → IsUpdateRead told held before now old new (Err answer) →
-          AreFilesRead tells names holds first now (Err result)
+      held ≡ holds name → before ≡ first → IsUpdateRead told held before now old new (Err answer) →
+      AreFilesRead tells names holds first now (Err result)
   stopped contents place i name at_place inside of at told held first before now old new answer result is still same
       count read =
       subst (λ (r : FilesAnswer). AreFilesRead tells names holds first now (Err r)) (ap (λ (n : ℕ). in_place n answer)
-          (sym at_place) ∙ sym is)
+      (sym at_place) ∙ sym is)
       (stops contents i name inside of at told held first before now old new answer still same count read)

@@ -24,7 +24,7 @@ names-preserved g c =
     let answer = c.in-Ok.ensures.answer in
     let at : slice_get c.args.names.now c.names.name-index ≡ Some c.name-item.result =
     slice_get_read c.args.names.now (length c.args.names.now)
-        c.names.name-index c.name-item.result refl (omega (arith, c.names-test.true)) c.name-item.is in
+    c.names.name-index c.name-item.result refl (omega (arith, c.names-test.true)) c.name-item.is in
     record {
       same = c.in-Ok.ensures.same ∙ c.names.invariant.same;
       still = λ tell. c.in-Ok.ensures.still (c.names.invariant.still tell);
@@ -33,7 +33,7 @@ names-preserved g c =
       stands = one_more _ c.args.names.now _ _ _ answer.1.0 c.names.name-index c.name-item.result
           c.names.invariant.stands answer.1.3 answer.1.1
           (λ tell. answer.1.2 (c.names.invariant.still tell) ∙ ap (λ (holds : List ℕ →
-              List ℕ). holds c.name-item.result) c.names.invariant.same)
+          List ℕ). holds c.name-item.result) c.names.invariant.same)
           at;
     }
 
@@ -45,9 +45,9 @@ returns-in-Err-clause-answer g c =
     let inside : c.names.name-index < length c.args.names.now = omega (arith, c.names-test.true) in
     let at : slice_get c.args.names.now c.names.name-index ≡ Some c.name-item.result =
     slice_get_read c.args.names.now (length c.args.names.now)
-        c.names.name-index c.name-item.result refl inside c.name-item.is in
+    c.names.name-index c.name-item.result refl inside c.name-item.is in
     stopped _ c.args.names.now _ _ _ c.names.name-index c.name-item.result c.names.invariant.place inside
-        c.names.invariant.stands at _ _ _ _ _ _ _ c.in-Err.answer _ c.in_place.ensures c.names.invariant.still
+    c.names.invariant.stands at _ _ _ _ _ _ _ c.in-Err.answer _ c.in_place.ensures c.names.invariant.still
     (ap (λ (holds : List ℕ → List ℕ). holds c.name-item.result) c.names.invariant.same)
     c.names.invariant.count
     c.in-Err.ensures.answer
