@@ -13,8 +13,8 @@ inside_after inside what.Enter = true
 inside_after inside (what.Leave result) = false
 inside_after inside item = inside
 
-abbrev pub is_inside : ℕ → List Item → Bool
-is_inside t items = fold (λ inside item. if item.thread == t then inside_after inside item.what else inside) false items
+abbrev pub has_entered : ℕ → List Item → Bool
+has_entered t items = fold (λ inside item. if item.thread == t then inside_after inside item.what else inside) false items
 
 -- A group is in its write from its Begin until its Report.
 
@@ -30,7 +30,7 @@ is_in_write g items = fold (λ in_write item. write_after g in_write item.what) 
 -- ordinary code while its group is in its write.
 abbrev pub MayCome : Plan → List Item → ℕ → What → Type 0
 MayCome plan earlier t (what.Begin g) =
-    (u : ℕ) → plan.group u ≡ g → plan.kind u ≢ Absent → is_inside u earlier ≡ true
+    (u : ℕ) → plan.group u ≡ g → plan.kind u ≢ Absent → has_entered u earlier ≡ true
 MayCome plan earlier t what.Ordinary = is_in_write (plan.group t) earlier ≡ false
 MayCome plan earlier t item = Unit {0}
 

@@ -34,12 +34,12 @@ pub record Kicks (plan : Plan) (t : ℕ) (k : ℕ) (before after : State) : Type
 -- It arrives. The Online thread that arrives last, while the threads gather, is to decide.
 
 -- the threads gather, t is Online, and no Online thread is awaited any more
-abbrev pub is_last : Plan → ℕ → Stage → (ℕ → Bool) → Bool
-is_last plan t stage arrived =
+abbrev pub arrives_last : Plan → ℕ → Stage → (ℕ → Bool) → Bool
+arrives_last plan t stage arrived =
     is_gathering stage && is_online (plan.kind t) && (still_awaited plan arrived == 0)
 
 abbrev pub decider_after : Plan → ℕ → State → (ℕ → Bool) → ℕ → Bool
-decider_after plan t before arrived = if is_last plan t before.stage arrived then only t else before.is_decider
+decider_after plan t before arrived = if arrives_last plan t before.stage arrived then only t else before.is_decider
 
 pub record Arrives (plan : Plan) (t : ℕ) (before after : State) : Type 0 where
   pub is_in : before.place t ≡ In

@@ -55,17 +55,17 @@ abbrev pub Leads : Plan → ℕ → State → Type 0
 Leads plan t s = (is_primary plan t ≡ true) × (s.stage ≡ Going)
 
 -- one whose group has an offer
-abbrev pub Writes : Plan → ℕ → State → Type 0
-Writes plan t s = (is_primary plan t ≡ true) × (s.stage ≡ Going) × (is_some (plan.offer (plan.group t)) ≡ true)
+abbrev pub LeadsAWrite : Plan → ℕ → State → Type 0
+LeadsAWrite plan t s = (is_primary plan t ≡ true) × (s.stage ≡ Going) × (is_some (plan.offer (plan.group t)) ≡ true)
 
 -- one that has its group's result
-abbrev pub Reports : Plan → ℕ → ℕ → State → Type 0
-Reports plan t mine s =
+abbrev pub HasResult : Plan → ℕ → ℕ → State → Type 0
+HasResult plan t mine s =
     (is_primary plan t ≡ true) × (s.stage ≡ Going) × (mine ≡ number_of (report_of plan (plan.group t)))
 
 -- one that frees the thread that its loop is at
 abbrev pub FreesAt : Plan → ℕ → ℕ → ℕ → State → Type 0
-FreesAt plan t at mine s = Reports plan t mine s × (is_sibling plan t at ≡ true)
+FreesAt plan t at mine s = HasResult plan t mine s × (is_sibling plan t at ≡ true)
 
 -- a sibling after a go
 abbrev pub Follows : Plan → ℕ → State → Type 0
@@ -101,10 +101,10 @@ OnlineKnows phase.Arriving plan t at mine s = t ≡ 0 → AllHere plan s.arrived
 OnlineKnows phase.Deciding plan t at mine s = s.stage ≢ Going
 OnlineKnows phase.Waiting plan t at mine s = Unit {0}
 OnlineKnows phase.Reading plan t at mine s = Leads plan t s
-OnlineKnows phase.Beginning plan t at mine s = Writes plan t s
-OnlineKnows phase.Writing plan t at mine s = Writes plan t s
-OnlineKnows phase.Checking plan t at mine s = Writes plan t s
-OnlineKnows phase.Reporting plan t at mine s = Reports plan t mine s
+OnlineKnows phase.Beginning plan t at mine s = LeadsAWrite plan t s
+OnlineKnows phase.Writing plan t at mine s = LeadsAWrite plan t s
+OnlineKnows phase.Checking plan t at mine s = LeadsAWrite plan t s
+OnlineKnows phase.Reporting plan t at mine s = HasResult plan t mine s
 OnlineKnows phase.Freeing plan t at mine s = FreesAt plan t at mine s
 OnlineKnows phase.SiblingWait plan t at mine s = Follows plan t s
 OnlineKnows phase.SiblingCheck plan t at mine s = ToldApply plan t s

@@ -19,7 +19,7 @@ use Rattle.rendezvous_model.specs.RoundItems.{Frees, FreesSibling}
 use Rattle.rendezvous_model.specs.RoundEnds.{okay_for}
 use Rattle.rendezvous_rule.specs.View.{View, Views, view, views, is_timeout}
 use Rattle.rendezvous_rule.specs.Seen.{seen, words_of, place_seen, ctrl_code, release_code, freed_seen}
-use Rattle.rendezvous_rule.specs.Knows.{Knows, Ends, Reports, report_of, report_by, result_for}
+use Rattle.rendezvous_rule.specs.Knows.{Knows, Ends, HasResult, report_of, report_by, result_for}
 use Rattle.rendezvous_rule.specs.Rule.{RuleBy}
 use Rattle.rule_laws.specs.Kept.{Kept, event_of, is_step}
 use Rattle.rule_laws.proofs.Frame.{at_phase, coded, put_back, put_map, and_false, and_both, not_itself, sibling, leads_sibling, no_primary_of}
@@ -71,7 +71,7 @@ frees_view plan t first at polls mine None e = ap (leaving plan t first mine) e
 -- What it knows then.
 pub frees_row :
     (plan : Plan) (t k at polls mine : ℕ) (next : Option ℕ) (s : State) →
-    Reports plan t mine s →
+    HasResult plan t mine s →
     sibling_from plan t k ≡ next → Knows Online plan t (free_at (at_phase phase.Freeing at polls mine) next) s
 unfolding result_for
 frees_row plan t k at polls mine (Some l) s reports e = (reports, sibling_found plan t k l e)

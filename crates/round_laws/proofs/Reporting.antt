@@ -16,7 +16,7 @@ use Rattle.rendezvous_steps.specs.StepTable.{operation, after, number_of, result
 use Rattle.rendezvous_steps.specs.Events.{Running, put, steps}
 use Rattle.rendezvous_model.specs.Round.{GroupPlace, Waiting, Written, Reported, Going, nobody}
 use Rattle.rendezvous_model.specs.RoundItems as items
-use Rattle.rendezvous_model.specs.RoundItems.{Reports as ReportsItem}
+use Rattle.rendezvous_model.specs.RoundItems.{Reports}
 use Rattle.rendezvous_rule.specs.View.{View, view, views}
 use Rattle.rendezvous_rule.specs.Seen.{seen, words_of, mode_code, revision_in, ctrl_code, has_begun}
 use Rattle.rendezvous_rule.specs.Knows.{Knows, report_of, report_by}
@@ -160,7 +160,7 @@ reports_kept plan moment t h first at polls mine sound padded rule own here onli
     ∙ and_false (is_primary plan t) (is_sibling plan t u && false) (and_false (is_sibling plan t u) false refl) in
     unfreed (v.place u) (v.frees (plan.primary (plan.group u)) u) (v.settles 0 u) none
     (none_settled plan (families moment.words) moment.locals first Going u sound rule refl) in
-    let reports : ReportsItem plan t g x (s moment.latched) (next moment.latched) =
+    let reports : Reports plan t g x (s moment.latched) (next moment.latched) =
     record {
       by_primary = sym (primary_is plan t primary);
       is_in = inside;

@@ -16,7 +16,7 @@ use Rattle.rendezvous_model.specs.Round.{State, Cause, Place, Out, In, Left, Hal
 use Rattle.rendezvous_model.specs.RoundStep.{RoundBy, thread_of, cause_of}
 use Rattle.rendezvous_model.specs.Safe.{is_in_write as writes}
 use Rattle.rendezvous_model.specs.Run.{Run, Answered}
-use Rattle.rendezvous_model.specs.Excluded.{is_inside, inside_after, is_in_write, write_after}
+use Rattle.rendezvous_model.specs.Excluded.{has_entered, inside_after, is_in_write, write_after}
 use Rattle.run_laws.proofs.Tables.{put_same, put_other, same_or_not}
 use Rattle.run_laws.proofs.Model.{change, changed}
 
@@ -121,7 +121,7 @@ absent_after plan t cause s item s' by u absent = absent
 
 -- What items tell of the state that they lead to.
 pub record Front (plan : Plan) (items : List Item) (s : State) : Type 0 where
-  pub inside : (u : ℕ) → is_inside u items ≡ within (s.place u)
+  pub inside : (u : ℕ) → has_entered u items ≡ within (s.place u)
   pub in_write : (g : ℕ) → is_in_write g items ≡ writes (s.group g)
   pub absent : (u : ℕ) → plan.kind u ≡ KindAbsent → s.place u ≡ Absent
   pub first_revision : (g : ℕ) → has_written (s.group g) ≡ false → s.revision g ≡ plan.rev0 g
@@ -153,7 +153,7 @@ front_step plan items k event item s s' e front answered =
     subst (λ x. Front plan (take (k + 1) items) x) (sym (changed plan t cause s item.what s' answered.step)) (record {
       inside = λ u.
           fold_more (λ inside i. if i.thread == u then inside_after inside i.what else inside) false items k item room
-          ∙ (ap (λ (i : Item). if i.thread == u then inside_after (is_inside u (take k items)) i.what else is_inside
+          ∙ (ap (λ (i : Item). if i.thread == u then inside_after (has_entered u (take k items)) i.what else has_entered
           u (take k items)) here
           ∙ (ap (λ b. if item.thread == u then inside_after b item.what else b) (front.inside u)
           ∙ (ap (λ n. if n == u then inside_after (within (s.place u)) item.what else within (s.place u))
