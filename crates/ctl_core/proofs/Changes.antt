@@ -22,6 +22,7 @@ use Rattle.ctl_words.specs.Lists.{Lists, has_word, word_of}
 use Rattle.ctl_words.specs.Places.{is_word}
 use Rattle.ctl_words.specs.declared.plans.Plan.{Plan as Tables}
 use Rattle.ctl_words.specs.Plans.{plan_of, IsSound}
+use Rattle.ctl_core.specs.Chains.{Chained}
 use Rattle.ctl_core.specs.Moments.{State, running_of, Fits, nowhere, unfinished_in, SmallRevisions}
 
 get_or-written : {A : Type 0} (xs : List A) (t u : ℕ) (x d : A) → t < length xs → get_or (slice_set xs t x) u d ≡ (if u == t then x else get_or xs u d)
@@ -51,6 +52,7 @@ Fits-latched plan s t latch fits =
       writes = fits.writes;
       revisions = fits.revisions;
       counted = fits.counted;
+      chained = fits.chained;
     }
 
 pub performed : (plan : Plan) (s applied : State) (t : ℕ) (local : Local) → Fits plan s → t < plan.threads → applied.locals ≡ s.locals → applied.latched ≡ s.latched → running_of (record applied { locals = slice_set applied.locals t local }) ≡ record (running_of s) { words = word_of applied.words; locals = put (running_of s).locals t local }
@@ -63,7 +65,7 @@ place_kept true x y m first second = first
 place_kept false x y m first second = second
 
 -- the words after an operation, with the count that goes with them
-pub Fits-applied : (plan : Plan) (s : State) (words : Lists) (unfinished : ℕ) → Fits plan s → has_word words ≡ has_word s.words → ((g : ℕ) → word_of words (Rev g) < 2 ^ 32) → unfinished ≡ unfinished_in plan (word_of words) → Fits plan (record { words = words; locals = s.locals; latched = s.latched; unfinished = unfinished })
+pub Fits-applied : (plan : Plan) (s : State) (words : Lists) (unfinished : ℕ) → Fits plan s → has_word words ≡ has_word s.words → ((g : ℕ) → word_of words (Rev g) < 2 ^ 32) → unfinished ≡ unfinished_in plan (word_of words) → Fits plan (record { words = words; locals = s.locals; latched = s.latched; unfinished = unfinished; chains = s.chains })
 Fits-applied plan s words unfinished fits same revisions counted =
     record {
       words = λ w. ap (λ has. has w) same ∙ fits.words w;
@@ -73,6 +75,7 @@ Fits-applied plan s words unfinished fits same revisions counted =
       writes = fits.writes;
       revisions = revisions;
       counted = counted;
+      chained = fits.chained;
     }
 
 pub Fits-local : (plan : Plan) (s : State) (t : ℕ) (local : Local) → Fits plan s → t < plan.threads → local.at < plan.threads → Fits plan (record s { locals = slice_set s.locals t local })
@@ -87,6 +90,7 @@ Fits-local plan s t local fits below at =
       writes = fits.writes;
       revisions = fits.revisions;
       counted = fits.counted;
+      chained = fits.chained;
     }
 
 -- a step goes by whether the thread has an operation
@@ -159,6 +163,7 @@ pub record Opens (plan : Plan) (s : State) : Type 0 where
   pub latched : s.latched ≡ replicate plan.threads false
   pub small : SmallRevisions plan
   pub counted : s.unfinished ≡ unfinished_in plan (word_of s.words)
+  pub chained : Chained plan s.chains
 
 locals-opening : (plan : Plan) (s : State) → Opens plan s → (running_of s).locals ≡ opening plan
 locals-opening plan s opens =
@@ -185,6 +190,7 @@ Fits-opening plan s opens =
       writes = opens.small.writes;
       revisions = λ g. subst (λ (words : Word → ℕ). words (Rev g) < 2 ^ 32) (sym opens.words) (opens.small.first g);
       counted = opens.counted;
+      chained = opens.chained;
     }
 
 -- past its last thread a plan has none that takes part

@@ -1,5 +1,5 @@
 -- How an operation changes which threads are unfinished.
-use Rattle.std.proofs.Common.{◌≡◌, ◌≢◌, ℕ, zero, suc, ◌+◌, ◌-◌, ◌==◌, ◌<◌, ◌≤◌, ◌^◌, Bool, true, false, not, cond, if◌then◌else◌, count_by, Some, None, refl, sym, ap, ◌∙◌, subst, arith, inl, inr}
+use Rattle.std.proofs.Common.{◌≡◌, ◌≢◌, ℕ, zero, suc, ◌+◌, ◌-◌, ◌==◌, ◌<◌, ◌≤◌, ◌^◌, Bool, true, false, not, ◌||◌, ◌&&◌, nat_le, cond, if◌then◌else◌, count_by, Some, None, refl, sym, ap, ◌∙◌, subst, arith, inl, inr}
 use Rattle.std.proofs.Math.Path.{fun_ext}
 use Rattle.std.proofs.lemmas.Bool.Decides.{nat_tests, eqb_tells}
 use Rattle.std.proofs.lemmas.List.Sums.{sum_by-cons, count_by-le-length}
@@ -9,12 +9,12 @@ use Rattle.rendezvous_steps.specs.declared.operations.Word.{Word}
 use Rattle.rendezvous_steps.specs.declared.operations.Word.TheVariants.{Arrive, OffIn, Decide, Mode, Ctrl, Nmi, Rev, Res}
 use Rattle.rendezvous_steps.specs.declared.operations.Op.{Op}
 use Rattle.rendezvous_steps.specs.declared.operations.Op.TheVariants.{Load}
-use Rattle.rendezvous_steps.specs.Plan.{Plan, threads_from}
+use Rattle.rendezvous_steps.specs.Plan.{Plan, threads_from, is_absent, is_offline}
 use Rattle.rendezvous_steps.specs.Words.{touched, written, put_word, words_after}
-use Rattle.rendezvous_steps.specs.Events.{shows_finished}
+use Rattle.rendezvous_steps.specs.Events.{shows_left, shows_halted, shows_withdrawn, shows_finished}
 use Rattle.ctl_words.specs.Places.{is_word}
 use borrow.Author.Tests.{ltb-true}
-use Rattle.ctl_core.specs.Moments.{unfinished_in, owner}
+use Rattle.ctl_core.specs.Moments.{unfinished_in, owner, is_end}
 
 count_step : (p : ℕ → Bool) (a n : ℕ) → count_by p (range_with_len a (suc n)) ≡ cond (p a) 1 0 + count_by p (range_with_len (a + 1) n)
 count_step p a n = sum_by-cons (λ x. cond (p x) 1 0) a (range_with_len (a + 1) n)
@@ -93,6 +93,42 @@ all_same plan words (Res g) v u is = refl
 pub unfinished_stays : (plan : Plan) (words : Word → ℕ) (op : Op) → owner (touched op) ≡ None → unfinished_in plan (words_after words op) ≡ unfinished_in plan words
 unfinished_stays plan words op is =
     count_same_from _ _ 0 (plan.threads - 0) (λ u _. ap (λ b. not b) (all_same plan words (touched op) (written op (words (touched op))) u is))
+
+-- a word that shows an end, or none, as before shows of each thread what it showed
+left_alike : (words : Word → ℕ) (k v u : ℕ) → nat_le 8 (words (Mode k)) ≡ nat_le 8 v → nat_le 8 (if u == k then v else words (Mode u)) ≡ nat_le 8 (words (Mode u))
+left_alike words k v u same =
+    elim (eqb_tells u k) [
+      | inl e ↦ rw e.0 (sym same ∙ ap (λ n. nat_le 8 (words (Mode n))) (sym e.1))
+      | inr e ↦ rw e.0 refl
+    ]
+
+halted_alike : (words : Word → ℕ) (k v u : ℕ) → (words (Ctrl k) == 3) ≡ (v == 3) → ((if u == k then v else words (Ctrl u)) == 3) ≡ (words (Ctrl u) == 3)
+halted_alike words k v u same =
+    elim (eqb_tells u k) [
+      | inl e ↦ rw e.0 (sym same ∙ ap (λ n. words (Ctrl n) == 3) (sym e.1))
+      | inr e ↦ rw e.0 refl
+    ]
+
+withdrawn_alike : (words : Word → ℕ) (k v u : ℕ) → (words (Nmi k) == 3) ≡ (v == 3) → ((if u == k then v else words (Nmi u)) == 3) ≡ (words (Nmi u) == 3)
+withdrawn_alike words k v u same =
+    elim (eqb_tells u k) [
+      | inl e ↦ rw e.0 (sym same ∙ ap (λ n. words (Nmi n) == 3) (sym e.1))
+      | inr e ↦ rw e.0 refl
+    ]
+
+shown_alike : (plan : Plan) (words : Word → ℕ) (w : Word) (v u : ℕ) → is_end w (words w) ≡ is_end w v → shows_finished plan (put_word words w v) u ≡ shows_finished plan words u
+shown_alike plan words Arrive v u same = refl
+shown_alike plan words OffIn v u same = refl
+shown_alike plan words Decide v u same = refl
+shown_alike plan words (Mode k) v u same = ap (λ b. b || shows_halted words u || shows_withdrawn plan words u || is_absent (plan.kind u)) (left_alike words k v u same)
+shown_alike plan words (Ctrl k) v u same = ap (λ b. shows_left words u || b || shows_withdrawn plan words u || is_absent (plan.kind u)) (halted_alike words k v u same)
+shown_alike plan words (Nmi k) v u same = ap (λ b. shows_left words u || shows_halted words u || (is_offline (plan.kind u) && b) || is_absent (plan.kind u)) (withdrawn_alike words k v u same)
+shown_alike plan words (Rev g) v u same = refl
+shown_alike plan words (Res g) v u same = refl
+
+pub unfinished_alike : (plan : Plan) (words : Word → ℕ) (op : Op) → is_end (touched op) (words (touched op)) ≡ is_end (touched op) (written op (words (touched op))) → unfinished_in plan (words_after words op) ≡ unfinished_in plan words
+unfinished_alike plan words op same =
+    count_same_from _ _ 0 (plan.threads - 0) (λ u _. ap (λ b. not b) (shown_alike plan words (touched op) (written op (words (touched op))) u same))
 
 turned : (b : Bool) → cond (not b) 1 0 + cond b 1 0 ≡ 1
 turned true = refl

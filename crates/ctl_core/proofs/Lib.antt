@@ -2,6 +2,7 @@ pub mod Decimals
 pub mod Polling
 pub mod Counting
 pub mod Changes
+pub mod Chaining
 pub mod Small
 pub mod Revisions
 pub mod Over

@@ -1,5 +1,5 @@
 -- A whole schedule is a run that lists its items.
-use Rattle.std.proofs.Common.{ℕ, ◌≤◌, true, false, List, map, Result, Ok, Err, refl, true≢false}
+use Rattle.std.proofs.Common.{ℕ, ◌≤◌, ◌≡◌, true, false, List, map, Result, Ok, Err, OnOk, refl, true≢false}
 use Rattle.rendezvous_steps.specs.declared.ends.Beat.{Beat}
 use Rattle.rendezvous_steps.specs.Plan.{Plan, Sound, threads_from}
 use Rattle.rendezvous_steps.specs.Padded.{Padded}
@@ -34,9 +34,10 @@ schedule_run plan beats sound padded = record {
   ran = plays_are_listed item_line plan beats (schedule_lines plan beats) (outcome_at plan (shown_by plan (schedule_end plan beats))) sound padded refl (record { decide = refl; ends = refl; revs = refl });
 }
 
-pub schedule_is_run : {D : Type 0} (stands : D → List ℕ → Type 0) (faults : D → ℕ) (plan : Plan) (beats : List Beat) (before after : List RunOf) (old new : D) (result : Result Tables RunAnswer) → Sound plan → Padded plan → faults old ≤ faults new → PlayedTo stands faults plan beats old new result → IsRun stands faults true plan beats before after old new result
-schedule_is_run stands faults plan beats before after old new (Ok outcome) sound padded later played = record {
+pub schedule_is_run : {D : Type 0} (stands : D → List ℕ → Type 0) (faults : D → ℕ) (plan : Plan) (beats : List Beat) (before after : List RunOf) (old new : D) (result : Result Tables RunAnswer) → Sound plan → Padded plan → faults old ≤ faults new → OnOk result (faults new ≡ faults old) → PlayedTo stands faults plan beats old new result → IsRun stands faults true plan beats before after old new result
+schedule_is_run stands faults plan beats before after old new (Ok outcome) sound padded later still played = record {
   later = later;
+  still = still;
   answer = record {
     text = schedule_lines plan beats;
     late = false;
@@ -45,8 +46,9 @@ schedule_is_run stands faults plan beats before after old new (Ok outcome) sound
     kept = λ no. absurd (true≢false no);
   };
 }
-schedule_is_run stands faults plan beats before after old new (Err WriteFault) sound padded later played = record {
+schedule_is_run stands faults plan beats before after old new (Err WriteFault) sound padded later still played = record {
   later = later;
+  still = still;
   answer = record {
     run = schedule_run plan beats sound padded;
     front = played.0;
@@ -54,7 +56,8 @@ schedule_is_run stands faults plan beats before after old new (Err WriteFault) s
     kept = λ no. absurd (true≢false no);
   };
 }
-schedule_is_run stands faults plan beats before after old new (Err NoMemory) sound padded later played = record {
+schedule_is_run stands faults plan beats before after old new (Err NoMemory) sound padded later still played = record {
   later = later;
+  still = still;
   answer = record { same_sink = played; kept = λ no. absurd (true≢false no) };
 }

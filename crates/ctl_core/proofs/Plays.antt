@@ -74,7 +74,7 @@ module _ {D : Type 0} (stands : D → List ℕ → Type 0) (faults : D → ℕ) 
 
   pub nothing_more : {E F : Type 0} (other : Plan) → other ≡ plan → (before after : Running) (xs ys whole : List Event) (old new : D) → xs ++ ys ≡ whole → is_over other after ≡ true → Plays {E = E} stands faults plan before after xs old new (Ok tt) → Plays {E = F} stands faults plan before after whole old new (Ok tt)
   nothing_more {E} {F} other same before after xs ys whole old new is over first =
-      let retyped : Plays {E = F} stands faults plan before after xs old new (Ok tt) = record { wrote = record { later = first.wrote.later; outcome = first.wrote.outcome }; came = first.came } in
+      let retyped : Plays {E = F} stands faults plan before after xs old new (Ok tt) = record { wrote = record { later = first.wrote.later; still = first.wrote.still; outcome = first.wrote.outcome }; came = first.came } in
       subst (λ (events : List Event). Plays {E = F} stands faults plan before after events old new (Ok tt)) is
       (Plays-over {E = F} before after xs ys old new (subst (λ (p : Plan). is_over p after ≡ true) same over) retyped)
 

@@ -1,6 +1,8 @@
 pub mod Outcomes
 pub mod Lines
 pub mod Runs
+pub mod Chains
+pub mod Stands
 pub mod Moments
 pub mod Cores
 pub mod Playing

@@ -1,5 +1,5 @@
 -- A moment of a rendezvous, seen as its lists, and the moment of the definition that they stand for.
-use Rattle.std.specs.Prelude.{◌≡◌, ◌==◌, ℕ, ◌<◌, ◌^◌, Bool, true, false, not, ◌&&◌, List, length, slice_get, unwrap_or, count_by, Option, Some, None}
+use Rattle.std.specs.Prelude.{◌≡◌, ◌==◌, ℕ, ◌<◌, ◌^◌, Bool, true, false, not, ◌&&◌, nat_le, List, length, slice_get, unwrap_or, count_by, Option, Some, None}
 use Rattle.std.specs.List.{find}
 use Rattle.rendezvous_steps.specs.declared.ends.End.{End}
 use Rattle.rendezvous_steps.specs.declared.steps.Phase.{Phase}
@@ -17,6 +17,7 @@ use Rattle.rendezvous_model.specs.Outcome.{end_of}
 use Rattle.rendezvous_rule.specs.Shown.{place_of}
 use Rattle.ctl_words.specs.Lists.{Lists, has_word, word_of}
 use Rattle.ctl_words.specs.Places.{is_word}
+use Rattle.ctl_core.specs.Chains.{Tables, Chained}
 
 -- how many threads are unfinished by the words
 abbrev pub unfinished_in : Plan → (Word → ℕ) → ℕ
@@ -37,11 +38,19 @@ owner (Ctrl t) = Some t
 owner (Nmi t) = Some t
 owner word = None
 
+-- a word of a thread that holds this shows that the thread left, halted, or had its kick taken back
+abbrev pub is_end : Word → ℕ → Bool
+is_end (Mode t) value = nat_le 8 value
+is_end (Ctrl t) value = value == 3
+is_end (Nmi t) value = value == 3
+is_end word value = false
+
 pub record State : Type 0 where
   pub words : Lists
   pub locals : List Local
   pub latched : List Bool
   pub unfinished : ℕ
+  pub chains : Tables
 
 -- where a thread past the last one stands
 abbrev pub nowhere : Local
@@ -60,8 +69,8 @@ pub record SmallRevisions (plan : Plan) : Type 0 where
   pub first : (g : ℕ) → plan.rev0 g < 2 ^ 32
   pub writes : (g : ℕ) → write_of plan g < 2 ^ 32
 
--- the lists have the plan's places, each thread's loop is at a thread of the plan, revisions are of 32 bits, and the
--- count is that of the words
+-- the lists have the plan's places, each thread's loop is at a thread of the plan, revisions are of 32 bits, the count
+-- is that of the words, and the threads are linked as the plan's
 pub record Fits (plan : Plan) (s : State) : Type 0 where
   pub words : (w : Word) → has_word s.words w ≡ is_word plan w
   pub locals : length s.locals ≡ plan.threads
@@ -70,6 +79,7 @@ pub record Fits (plan : Plan) (s : State) : Type 0 where
   pub writes : (g : ℕ) → write_of plan g < 2 ^ 32
   pub revisions : (g : ℕ) → word_of s.words (Rev g) < 2 ^ 32
   pub counted : s.unfinished ≡ unfinished_in plan (word_of s.words)
+  pub chained : Chained plan s.chains
 
 abbrev pub is_poll : What → Bool
 is_poll Poll = true

@@ -1,5 +1,5 @@
 -- What a call that runs a rendezvous came to.
-use Rattle.std.specs.Prelude.{◌≡◌, ℕ, ◌≤◌, Bool, false, List, [], ◌∷◌, ◌++◌, Result, Ok, Err}
+use Rattle.std.specs.Prelude.{◌≡◌, ℕ, ◌≤◌, Bool, false, List, [], ◌∷◌, ◌++◌, Result, Ok, Err, OnOk}
 use Rattle.uc_io.specs.Faults.{Rose}
 use Rattle.uc_io.specs.Writing.{Grew, GrewByFront}
 use Rattle.rendezvous_steps.specs.declared.ends.Beat.{Beat}
@@ -41,6 +41,7 @@ CameTo stands faults lists plan beats before after old new (Err WriteFault) =
 CameTo stands faults lists plan beats before after old new (Err NoMemory) = NothingRan lists before after old new
 
 pub record IsRun {D : Type 0} (stands : D → List ℕ → Type 0) (faults : D → ℕ) (lists : Bool) (plan : Plan) (beats : List Beat) (before after : List RunOf) (old new : D) (result : Result Tables RunAnswer) : Type 0 where
-  -- the count of faults never falls
+  -- the count of faults never falls, and stands still where the run came to an outcome
   pub later : faults old ≤ faults new
+  pub still : OnOk result (faults new ≡ faults old)
   pub answer : CameTo stands faults lists plan beats before after old new result

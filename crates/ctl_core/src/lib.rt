@@ -3,13 +3,12 @@
 //! - `Rendezvous` is the trait that a session is written over. Its contract is `Ran` of `rendezvous_rule`, and its two
 //!   laws say that every sound plan has a run and that no revision falls in one.
 //! - `Core` does one event after another, each as `happens` of `rendezvous_steps` says, without memory. From the opening
-//!   on each item is a step of the model, and each state is safe. An event is constant work but for steps that go over
-//!   the plan's threads: a primary looks for its next sibling where it reports and at each free; thread 0 looks for the
-//!   next Offline thread where it enters or drops, and at each kick, withdrawal and free; and while thread 0 waits for
-//!   the kicked threads, each of its steps counts the Offline ones.
+//!   on each item is a step of the model, and each state is safe. An event is constant work: the threads of a group, and
+//!   the Offline ones, are linked and counted once, when the core is made.
 //! - `Scheduled` plays a schedule on a core, and prints each item's line.
 #![tactic(auto)]
 
+mod chains;
 mod cores;
 mod item_lines;
 mod laws;
@@ -19,6 +18,7 @@ mod outcomes;
 mod ranges;
 mod runs;
 mod schedules;
+mod stands;
 
 pub use cores::Core;
 pub use ctl_words::Plan;

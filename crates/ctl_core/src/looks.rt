@@ -7,7 +7,7 @@ ghost use Rattle.rendezvous_steps.specs.Plan.{threads_from};
 ghost use Rattle.rendezvous_steps.specs.StepTable.{write_of};
 ghost use Rattle.ctl_words.specs.Lists.{word_of};
 ghost use Rattle.ctl_words.specs.Plans.{plan_of, IsSound};
-ghost use Rattle.ctl_core.specs.Moments.{unfinished_in, unfinished_from, end_in, owner};
+ghost use Rattle.ctl_core.specs.Moments.{unfinished_in, unfinished_from, end_in, owner, is_end};
 
 use ctl_words::{PlainWords, Plan};
 use rendezvous_steps::{End, Kind, ThreadResult, Word};
@@ -157,5 +157,17 @@ pub fn owner(word: Word) -> Option<u16>
     match word {
         Word::Mode(thread) | Word::Ctrl(thread) | Word::Nmi(thread) => Some(thread),
         Word::Arrive | Word::OffIn | Word::Decide | Word::Rev(_) | Word::Res(_) => None,
+    }
+}
+
+/// Whether a word of a thread that holds this shows that the thread left, halted, or had its kick taken back.
+#[inline(always)]
+pub fn is_end(word: Word, value: u64) -> bool
+    ensures { result ≡ is_end word value }
+{
+    match word {
+        Word::Mode(_) => value >= 8,
+        Word::Ctrl(_) | Word::Nmi(_) => value == 3,
+        Word::Arrive | Word::OffIn | Word::Decide | Word::Rev(_) | Word::Res(_) => false,
     }
 }

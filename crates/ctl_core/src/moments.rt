@@ -12,11 +12,14 @@ ghost use Rattle.rendezvous_model.specs.RoundStep.{thread_of};
 ghost use Rattle.ctl_words.specs.Lists.{has_word, word_of};
 ghost use Rattle.ctl_words.specs.Plans.{plan_of, IsSound};
 ghost use Rattle.std.specs.List.{range_with_len};
+ghost use Rattle.ctl_core.specs.Stands.{local_of};
 ghost use Rattle.ctl_core.specs.Moments.{running_of, Fits, owner, unfinished_from, is_poll, waits, is_ready, ready_from, end_in};
 
+use crate::chains::Chains;
 use crate::looks;
+use crate::stands::Stand;
 use arrayvec::ArrayVec;
-use ctl_thread::{after, next, opening};
+use ctl_thread::{after, after_linked, next, opening};
 use ctl_words::{PlainWords, Plan, Words};
 use rendezvous_steps::{End, Event, How, Item, Kind, Local, Op, Phase, What, Word};
 use std::alloc::Global;
@@ -24,21 +27,31 @@ use std::marker::Model;
 use uc_bytes::NoMemory;
 
 /// A rendezvous between two events: the words, each thread's state, whether an NMI is latched for it, and how many
-/// threads are unfinished.
+/// threads are unfinished. The plan's threads are linked once, so that a step goes on to the next thread at once.
 #[derive(Drop)]
 pub struct Moment {
     words: PlainWords,
-    locals: Vec<Local>,
+    locals: Vec<Stand>,
     latched: Vec<bool>,
     unfinished: u16,
+    chains: Chains,
 }
 
 impl Model for Moment {
+    ghost use Rattle.std.specs.Prelude.{map};
     ghost use Rattle.ctl_core.specs.Moments.{State};
+    ghost use Rattle.ctl_core.specs.Stands.{local_of};
 
     ghost Value = { State };
 
-    ghost view = { λ a. record { words = a.words; locals = a.locals.items; latched = a.latched.items; unfinished = a.unfinished } };
+    ghost view = { λ a.
+        record {
+          words = a.words;
+          locals = map local_of a.locals.items;
+          latched = a.latched.items;
+          unfinished = a.unfinished;
+          chains = a.chains;
+        } };
 }
 
 const NOWHERE: Local = Local {
@@ -58,12 +71,14 @@ impl Moment {
         let words = PlainWords::new(alloc, plan)?;
         let locals = openings(alloc, plan)?;
         let latched = no_latches(alloc, plan.threads)?;
+        let chains = Chains::new(alloc, plan)?;
         looks::revisions_are_small(plan);
         Ok(Moment {
             unfinished: looks::unfinished(&words, plan),
             words,
             locals,
             latched,
+            chains,
         })
     }
 
@@ -265,14 +280,16 @@ impl Moment {
         ensures state { running_of self.new ≡ (steps (plan_of plan.now) thread how (running_of self.old)).0 }
         ensures fits { Fits (plan_of plan.now) self.new }
     {
-        match next(plan, thread, &self.local(thread), how) {
-            Some(op) => self.perform(plan, thread, how, op),
+        let local = self.local(thread);
+        match next(plan, thread, &local, how) {
+            Some(op) => self.perform(plan, thread, how, &local, op),
             None => self.come_through(plan, thread),
         }
     }
 
     #[inline(always)]
-    fn perform(&mut self, plan: &Plan, thread: u16, how: How, op: Op) -> What
+    fn perform(&mut self, plan: &Plan, thread: u16, how: How, local: &Local, op: Op) -> What
+        requires local { local.now ≡ (running_of self.old).locals thread }
         requires next { operation (plan_of plan.now) thread ((running_of self.old).locals thread) how ≡ Some op }
         requires sound { IsSound plan.now }
         requires fits { Fits (plan_of plan.now) self.old }
@@ -281,10 +298,9 @@ impl Moment {
         ensures state { running_of self.new ≡ (performs (plan_of plan.now) thread how (running_of self.old) (Some op)).0 }
         ensures fits { Fits (plan_of plan.now) self.new }
     {
-        let local = self.local(thread);
         let found = self.apply(plan, op);
-        let (local, what) = after(plan, thread, &local, how, found);
-        self.set_local(thread, local);
+        let (moved, what) = after_linked(plan, self.chains.links(), thread, local, how, found);
+        self.set_local(thread, moved);
         what
     }
 
@@ -445,6 +461,7 @@ impl Moment {
     }
 
     /// Does an operation that may change its word. Where that is a word of a thread, the thread is counted anew.
+    #[inline(always)]
     fn change(&mut self, plan: &Plan, op: Op) -> u64
         requires sound { IsSound plan.now }
         requires there { IsTrue (has_word self.old.words (touched op)) }
@@ -462,8 +479,32 @@ impl Moment {
         }
     }
 
-    /// Does an operation on a word of this thread.
+    /// Does an operation on a word of this thread. The thread is counted anew where the word shows an end now and did not
+    /// before, or the other way round.
+    #[inline(always)]
     fn apply_of(&mut self, plan: &Plan, thread: u16, op: Op) -> u64
+        requires sound { IsSound plan.now }
+        requires of { owner (touched op) ≡ Some thread }
+        requires there { IsTrue (has_word self.old.words (touched op)) }
+        requires fits { Fits (plan_of plan.now) self.old }
+        requires revisions { (g : ℕ) → words_after (word_of self.old.words) op (Rev g) < 2 ^ 32 }
+        ensures found { result ≡ word_of self.old.words (touched op) }
+        ensures written { word_of self.new.words ≡ words_after (word_of self.old.words) op }
+        ensures same_locals { self.new.locals ≡ self.old.locals }
+        ensures same_latched { self.new.latched ≡ self.old.latched }
+        ensures fits { Fits (plan_of plan.now) self.new }
+    {
+        let word = op.word();
+        let found = self.load(word);
+        if looks::is_end(word, found) == looks::is_end(word, op.written(found)) {
+            self.words.apply(op)
+        } else {
+            self.apply_and_count(plan, thread, op)
+        }
+    }
+
+    /// The same, and counts the thread anew.
+    fn apply_and_count(&mut self, plan: &Plan, thread: u16, op: Op) -> u64
         requires sound { IsSound plan.now }
         requires of { owner (touched op) ≡ Some thread }
         requires there { IsTrue (has_word self.old.words (touched op)) }
@@ -488,7 +529,7 @@ impl Moment {
         requires { thread < length self.old.locals }
         ensures { self.new ≡ record self.old { locals = slice_set self.old.locals thread local } }
     {
-        self.locals[usize::from(thread)] = local;
+        self.locals[usize::from(thread)] = Stand::of(local);
     }
 
     fn set_latched(&mut self, thread: u16, latched: bool)
@@ -502,10 +543,10 @@ impl Moment {
     fn local(&self, thread: u16) -> Local
         ensures { result ≡ (running_of self.now).locals thread }
     {
-        self.locals
-            .get(usize::from(thread))
-            .copied()
-            .unwrap_or(NOWHERE)
+        match self.locals.get(usize::from(thread)).copied() {
+            Some(stand) => stand.local(),
+            None => NOWHERE,
+        }
     }
 
     fn is_outside(&self, thread: u16) -> bool
@@ -545,15 +586,15 @@ impl Moment {
 }
 
 /// Where each thread stands when a rendezvous begins.
-fn openings(alloc: Global, plan: &Plan) -> Result<Vec<Local>, NoMemory>
+fn openings(alloc: Global, plan: &Plan) -> Result<Vec<Stand>, NoMemory>
     requires { IsSound plan.now }
-    ensures { IfOk result (λ locals. locals.items ≡ map (opening (plan_of plan.now)) (threads_from (plan_of plan.now) 0)) }
+    ensures { IfOk result (λ stands. map local_of stands.items ≡ map (opening (plan_of plan.now)) (threads_from (plan_of plan.now) 0)) }
 {
-    let mut locals = Vec::new(alloc);
+    let mut stands = Vec::with_capacity(alloc, usize::from(plan.threads))?;
     for thread in 0..plan.threads {
-        locals.push(opening(plan, thread))?;
+        stands.push(Stand::of(opening(plan, thread)))?;
     }
-    Ok(locals)
+    Ok(stands)
 }
 
 fn no_latches(alloc: Global, threads: u16) -> Result<Vec<bool>, NoMemory>

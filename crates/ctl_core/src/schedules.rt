@@ -1,6 +1,6 @@
 //! A rendezvous over a schedule, with a line for each item.
 
-ghost use Rattle.std.specs.Prelude.{◌≡◌, true, ◌<◌, ◌≤◌, ◌-◌, All, [], ◌∷◌, map};
+ghost use Rattle.std.specs.Prelude.{◌≡◌, true, ◌<◌, ◌≤◌, ◌-◌, All, [], ◌∷◌, map, OnOk};
 ghost use Rattle.std.specs.List.{range_with_len};
 ghost use Rattle.rendezvous_steps.specs.Plan.{threads_from};
 ghost use Rattle.rendezvous_steps.specs.declared.items.Event.TheVariants.{Step as StepOf};
@@ -45,6 +45,7 @@ impl Scheduled {
         requires in_range { All (BeatInRange plan.now.threads) beats.now }
         ensures played { PlayedTo S.stands S.faults (plan_of plan.now) beats.now out.old out.new result }
         ensures later { S.faults out.old ≤ S.faults out.new }
+        ensures still { OnOk result (S.faults out.new ≡ S.faults out.old) }
     {
         let mut core = Core::new(alloc, plan)?;
         play_beats(&mut core, beats, out)?;

@@ -49,7 +49,7 @@ sibling_from-past plan t k fails =
       | inr above ↦ sibling_from-end plan t k above ∙ sym (sibling_from-end plan t (k + 1) (omega arith))
     ]
 
-sibling_from-skips : (plan : Plan) (t k n : ℕ) → ((u : ℕ) → k ≤ u → u < k + n → is_sibling plan t u ≡ false) → sibling_from plan t k ≡ sibling_from plan t (k + n)
+pub sibling_from-skips : (plan : Plan) (t k n : ℕ) → ((u : ℕ) → k ≤ u → u < k + n → is_sibling plan t u ≡ false) → sibling_from plan t k ≡ sibling_from plan t (k + n)
 sibling_from-skips plan t k zero none =
     let here : k ≡ k + 0 = omega arith in
     ap (λ m. sibling_from plan t m) here

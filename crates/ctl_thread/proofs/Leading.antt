@@ -17,7 +17,7 @@ use Rattle.rendezvous_steps.specs.declared.items.What.TheVariants as what
 use Rattle.rendezvous_steps.specs.Plan.{Plan, is_primary, offline_from, offline_count}
 use Rattle.rendezvous_steps.specs.Words.{touched, written}
 use Rattle.rendezvous_steps.specs.StepTable.{operation, operation_in, after, after_in, after_outside, outside_item, entered, kick_at, loop_at, go_path, drop_path, withdraw_at, by_decision, by_release, polled, wait_in, to}
-use Rattle.ctl_thread.specs.Promises.{is_gathering, is_going, is_leaving, is_writing, gives_up}
+use Rattle.ctl_thread.specs.Promises.{is_before_decision, is_after_go, is_leaving, is_of_primary, gives_up}
 
 -- what holds in both cases of a test
 pub at_cond : {A : Type 0} (b : Bool) (x y : A) (P : A → Type 0) → (b ≡ true → P x) → (b ≡ false → P y) → P (if b then x else y)
@@ -99,40 +99,40 @@ Go op found = (touched op ≡ word.Decide) × (written op found ≡ 1)
 abbrev Out : Op → ℕ → Type 0
 Out op found = (touched op ≡ word.Decide) × (written op found ≢ 0)
 
-not_going : {A : Type 0} (plan : Plan) (t : ℕ) (local : Local) → is_going (drop_path plan t local).phase ≡ true → A
-not_going plan t local e = no _ (fails_dropping is_going plan t local refl refl) e
+not_going : {A : Type 0} (plan : Plan) (t : ℕ) (local : Local) → is_after_go (drop_path plan t local).phase ≡ true → A
+not_going plan t local e = no _ (fails_dropping is_after_go plan t local refl refl) e
 
-go_deciding : (plan : Plan) (t : ℕ) (local : Local) (found : ℕ) → IsTrue (is_going (after_in plan t local how.Step found Deciding).0.phase) → Go (Cas word.Decide 0 1) found
+go_deciding : (plan : Plan) (t : ℕ) (local : Local) (found : ℕ) → IsTrue (is_after_go (after_in plan t local how.Step found Deciding).0.phase) → Go (Cas word.Decide 0 1) found
 go_deciding plan t local found =
-    at_row (found == 0) (go_path plan t local, what.Go) (drop_path plan t local, what.Inner) (λ r. IsTrue (is_going r.0.phase) → Go (Cas word.Decide 0 1) found)
+    at_row (found == 0) (go_path plan t local, what.Go) (drop_path plan t local, what.Inner) (λ r. IsTrue (is_after_go r.0.phase) → Go (Cas word.Decide 0 1) found)
     (λ e _. (refl, rw e refl))
     (λ _ going. not_going plan t local going)
 
-go_by_decision : (plan : Plan) (t : ℕ) (local : Local) (found : ℕ) → IsTrue (is_going (by_decision plan t local found).0.phase) → found ≡ 1
+go_by_decision : (plan : Plan) (t : ℕ) (local : Local) (found : ℕ) → IsTrue (is_after_go (by_decision plan t local found).0.phase) → found ≡ 1
 go_by_decision plan t local found =
-    at_row (found == 1) (go_path plan t local, what.Inner) (drop_path plan t local, what.Inner) (λ r. IsTrue (is_going r.0.phase) → found ≡ 1)
+    at_row (found == 1) (go_path plan t local, what.Inner) (drop_path plan t local, what.Inner) (λ r. IsTrue (is_after_go r.0.phase) → found ≡ 1)
     (λ e _. test_is found 1 e)
     (λ _ going. not_going plan t local going)
 
-go_looking : (plan : Plan) (t at polls mine found : ℕ) → IsTrue (is_going (after_in plan t (state Waiting at polls mine) how.Step found Waiting).0.phase) → Go (Load word.Decide) found
+go_looking : (plan : Plan) (t at polls mine found : ℕ) → IsTrue (is_after_go (after_in plan t (state Waiting at polls mine) how.Step found Waiting).0.phase) → Go (Load word.Decide) found
 go_looking plan t at polls mine found =
-    at_row (found == 0) (polled (state Waiting at polls mine), what.Poll) (by_decision plan t (state Waiting at polls mine) found) (λ r. IsTrue (is_going r.0.phase) → Go (Load word.Decide) found)
+    at_row (found == 0) (polled (state Waiting at polls mine), what.Poll) (by_decision plan t (state Waiting at polls mine) found) (λ r. IsTrue (is_after_go r.0.phase) → Go (Load word.Decide) found)
     (λ _ going. absurd (false≢true going))
     (λ _ going. (refl, go_by_decision plan t (state Waiting at polls mine) found going))
 
-go_timing_out : (plan : Plan) (t at polls mine found : ℕ) → IsTrue (is_going (after_in plan t (state Waiting at polls mine) how.Timeout found Waiting).0.phase) → Go (Cas word.Decide 0 (3 + t)) found
+go_timing_out : (plan : Plan) (t at polls mine found : ℕ) → IsTrue (is_after_go (after_in plan t (state Waiting at polls mine) how.Timeout found Waiting).0.phase) → Go (Cas word.Decide 0 (3 + t)) found
 go_timing_out plan t at polls mine found =
-    at_row (found == 0) (drop_path plan t (state Waiting at polls mine), what.Drop) (by_decision plan t (state Waiting at polls mine) found) (λ r. IsTrue (is_going r.0.phase) → Go (Cas word.Decide 0 (3 + t)) found)
+    at_row (found == 0) (drop_path plan t (state Waiting at polls mine), what.Drop) (by_decision plan t (state Waiting at polls mine) found) (λ r. IsTrue (is_after_go r.0.phase) → Go (Cas word.Decide 0 (3 + t)) found)
     (λ _ going. not_going plan t (state Waiting at polls mine) going)
     (λ e going. (refl, rw e (go_by_decision plan t (state Waiting at polls mine) found going)))
 
-go_in : (plan : Plan) (t at polls mine : ℕ) (h : How) (found : ℕ) (phase : Phase) → IsTrue (not (is_going phase) && is_going (after_in plan t (state phase at polls mine) h found phase).0.phase) → IfSome (operation_in plan t (state phase at polls mine) h phase) (λ op. Go op found)
-go_in plan t at polls mine h found Outside e = no _ (fails_outside is_going (plan.kind t) plan t (state Outside at polls mine) h found refl refl refl refl refl) e
-go_in plan t at polls mine h found Kicking e = no _ (fails_kicking is_going (state Kicking at polls mine) (offline_from plan (at + 1)) refl refl) e
+go_in : (plan : Plan) (t at polls mine : ℕ) (h : How) (found : ℕ) (phase : Phase) → IsTrue (not (is_after_go phase) && is_after_go (after_in plan t (state phase at polls mine) h found phase).0.phase) → IfSome (operation_in plan t (state phase at polls mine) h phase) (λ op. Go op found)
+go_in plan t at polls mine h found Outside e = no _ (fails_outside is_after_go (plan.kind t) plan t (state Outside at polls mine) h found refl refl refl refl refl) e
+go_in plan t at polls mine h found Kicking e = no _ (fails_kicking is_after_go (state Kicking at polls mine) (offline_from plan (at + 1)) refl refl) e
 go_in plan t at polls mine how.Timeout found OfflineWait e = not_going plan t (state OfflineWait at polls mine) e
-go_in plan t at polls mine how.Step found OfflineWait e = no _ (fails_row is_going (found == offline_count plan) (to (state OfflineWait at polls mine) Arriving, what.Inner) (polled (state OfflineWait at polls mine), what.Poll) refl refl) e
-go_in plan t at polls mine how.Nmi found OfflineWait e = no _ (fails_row is_going (found == offline_count plan) (to (state OfflineWait at polls mine) Arriving, what.Inner) (polled (state OfflineWait at polls mine), what.Poll) refl refl) e
-go_in plan t at polls mine h found Arriving e = no _ (fails_local is_going (found == 1) (to (state Arriving at polls mine) Deciding) (wait_in (state Arriving at polls mine) Waiting) refl refl) e
+go_in plan t at polls mine how.Step found OfflineWait e = no _ (fails_row is_after_go (found == offline_count plan) (to (state OfflineWait at polls mine) Arriving, what.Inner) (polled (state OfflineWait at polls mine), what.Poll) refl refl) e
+go_in plan t at polls mine how.Nmi found OfflineWait e = no _ (fails_row is_after_go (found == offline_count plan) (to (state OfflineWait at polls mine) Arriving, what.Inner) (polled (state OfflineWait at polls mine), what.Poll) refl refl) e
+go_in plan t at polls mine h found Arriving e = no _ (fails_local is_after_go (found == 1) (to (state Arriving at polls mine) Deciding) (wait_in (state Arriving at polls mine) Waiting) refl refl) e
 go_in plan t at polls mine h found Deciding e = go_deciding plan t (state Deciding at polls mine) found e
 go_in plan t at polls mine how.Timeout found Waiting e = go_timing_out plan t at polls mine found e
 go_in plan t at polls mine how.Step found Waiting e = go_looking plan t at polls mine found e
@@ -148,19 +148,19 @@ go_in plan t at polls mine how.Step found SiblingWait e = absurd (false≢true e
 go_in plan t at polls mine how.Nmi found SiblingWait e = absurd (false≢true e)
 go_in plan t at polls mine h found SiblingCheck e = absurd (false≢true e)
 go_in plan t at polls mine h found SiblingCopy e = absurd (false≢true e)
-go_in plan t at polls mine h found Withdrawing e = no _ (fails_row is_going (found == 1) (withdraw_at (state Withdrawing at polls mine) (offline_from plan (at + 1)), what.Withdraw at) (to (state Withdrawing at polls mine) Releasing, what.Inner) (fails_withdrawing is_going (state Withdrawing at polls mine) (offline_from plan (at + 1)) refl refl) refl) e
-go_in plan t at polls mine h found Releasing e = no _ (fails_withdrawing is_going (state Releasing at polls mine) (offline_from plan (at + 1)) refl refl) e
+go_in plan t at polls mine h found Withdrawing e = no _ (fails_row is_after_go (found == 1) (withdraw_at (state Withdrawing at polls mine) (offline_from plan (at + 1)), what.Withdraw at) (to (state Withdrawing at polls mine) Releasing, what.Inner) (fails_withdrawing is_after_go (state Withdrawing at polls mine) (offline_from plan (at + 1)) refl refl) refl) e
+go_in plan t at polls mine h found Releasing e = no _ (fails_withdrawing is_after_go (state Releasing at polls mine) (offline_from plan (at + 1)) refl refl) e
 go_in plan t at polls mine h found OfflineCount e = absurd (false≢true e)
-go_in plan t at polls mine how.Timeout found OfflineHold e = no _ (fails_row is_going (found == 0) (to (state OfflineHold at polls mine) Halted, what.Halt) (to (state OfflineHold at polls mine) Leaving, what.Inner) refl refl) e
-go_in plan t at polls mine how.Step found OfflineHold e = no _ (fails_row is_going (found == 0) (polled (state OfflineHold at polls mine), what.Poll) (to (state OfflineHold at polls mine) Leaving, what.Inner) refl refl) e
-go_in plan t at polls mine how.Nmi found OfflineHold e = no _ (fails_row is_going (found == 0) (polled (state OfflineHold at polls mine), what.Poll) (to (state OfflineHold at polls mine) Leaving, what.Inner) refl refl) e
+go_in plan t at polls mine how.Timeout found OfflineHold e = no _ (fails_row is_after_go (found == 0) (to (state OfflineHold at polls mine) Halted, what.Halt) (to (state OfflineHold at polls mine) Leaving, what.Inner) refl refl) e
+go_in plan t at polls mine how.Step found OfflineHold e = no _ (fails_row is_after_go (found == 0) (polled (state OfflineHold at polls mine), what.Poll) (to (state OfflineHold at polls mine) Leaving, what.Inner) refl refl) e
+go_in plan t at polls mine how.Nmi found OfflineHold e = no _ (fails_row is_after_go (found == 0) (polled (state OfflineHold at polls mine), what.Poll) (to (state OfflineHold at polls mine) Leaving, what.Inner) refl refl) e
 go_in plan t at polls mine h found Leaving e = absurd (false≢true e)
 go_in plan t at polls mine h found Left e = tt
 go_in plan t at polls mine h found Halted e = tt
 go_in plan t at polls mine h found Withdrawn e = tt
 go_in plan t at polls mine h found Nothing e = tt
 
-pub go : (plan : Plan) (t : ℕ) (local : Local) (h : How) (found : ℕ) → IsTrue (not (is_going local.phase) && is_going (after plan t local h found).0.phase) → IfSome (operation plan t local h) (λ op. Go op found)
+pub go : (plan : Plan) (t : ℕ) (local : Local) (h : How) (found : ℕ) → IsTrue (not (is_after_go local.phase) && is_after_go (after plan t local h found).0.phase) → IfSome (operation plan t local h) (λ op. Go op found)
 unfolding operation after
 go plan t local h found e = go_in plan t local.at local.polls local.mine h found local.phase e
 
@@ -170,7 +170,7 @@ out_looking plan t at polls mine found =
     (λ _ leaving. absurd (false≢true leaving))
     (λ e _. (refl, test_is_not found 0 e))
 
-out_in : (plan : Plan) (t at polls mine : ℕ) (h : How) (found : ℕ) (phase : Phase) → IsTrue (is_gathering phase && is_leaving (after_in plan t (state phase at polls mine) h found phase).0.phase) → IfSome (operation_in plan t (state phase at polls mine) h phase) (λ op. Out op found)
+out_in : (plan : Plan) (t at polls mine : ℕ) (h : How) (found : ℕ) (phase : Phase) → IsTrue (is_before_decision phase && is_leaving (after_in plan t (state phase at polls mine) h found phase).0.phase) → IfSome (operation_in plan t (state phase at polls mine) h phase) (λ op. Out op found)
 out_in plan t at polls mine h found Outside e = no _ (fails_outside is_leaving (plan.kind t) plan t (state Outside at polls mine) h found refl refl refl refl refl) e
 out_in plan t at polls mine h found Kicking e = no _ (fails_kicking is_leaving (state Kicking at polls mine) (offline_from plan (at + 1)) refl refl) e
 out_in plan t at polls mine how.Timeout found OfflineWait e = (refl, made found 2 (omega arith))
@@ -204,31 +204,31 @@ out_in plan t at polls mine h found Halted e = tt
 out_in plan t at polls mine h found Withdrawn e = tt
 out_in plan t at polls mine h found Nothing e = tt
 
-pub out : (plan : Plan) (t : ℕ) (local : Local) (h : How) (found : ℕ) → IsTrue (is_gathering local.phase && is_leaving (after plan t local h found).0.phase) → IfSome (operation plan t local h) (λ op. Out op found)
+pub out : (plan : Plan) (t : ℕ) (local : Local) (h : How) (found : ℕ) → IsTrue (is_before_decision local.phase && is_leaving (after plan t local h found).0.phase) → IfSome (operation plan t local h) (λ op. Out op found)
 unfolding operation after
 out plan t local h found e = out_in plan t local.at local.polls local.mine h found local.phase e
 
 -- a primary, where the phase is one of writing
 abbrev AsPrimary : Plan → ℕ → Phase → Type 0
-AsPrimary plan t phase = IsTrue (is_writing phase) → IsTrue (is_primary plan t)
+AsPrimary plan t phase = IsTrue (is_of_primary phase) → IsTrue (is_primary plan t)
 
 as_primary_going : (plan : Plan) (t : ℕ) (local : Local) → AsPrimary plan t (go_path plan t local).phase
 as_primary_going plan t local = at_go (AsPrimary plan t) plan t local (λ primary _. primary) (λ e. absurd (false≢true e))
 
 as_primary_dropping : (plan : Plan) (t : ℕ) (local : Local) → AsPrimary plan t (drop_path plan t local).phase
-as_primary_dropping plan t local e = no _ (fails_dropping is_writing plan t local refl refl) e
+as_primary_dropping plan t local e = no _ (fails_dropping is_of_primary plan t local refl refl) e
 
 as_primary_by_decision : (plan : Plan) (t : ℕ) (local : Local) (found : ℕ) → AsPrimary plan t (by_decision plan t local found).0.phase
 as_primary_by_decision plan t local found =
     at_row (found == 1) (go_path plan t local, what.Inner) (drop_path plan t local, what.Inner) (λ r. AsPrimary plan t r.0.phase) (λ _. as_primary_going plan t local) (λ _. as_primary_dropping plan t local)
 
-as_primary_in : (plan : Plan) (t at polls mine : ℕ) (h : How) (found : ℕ) (phase : Phase) → IsTrue (is_writing (after_in plan t (state phase at polls mine) h found phase).0.phase) → IsTrue (is_writing phase || is_primary plan t)
-as_primary_in plan t at polls mine h found Outside e = no _ (fails_outside is_writing (plan.kind t) plan t (state Outside at polls mine) h found refl refl refl refl refl) e
-as_primary_in plan t at polls mine h found Kicking e = no _ (fails_kicking is_writing (state Kicking at polls mine) (offline_from plan (at + 1)) refl refl) e
+as_primary_in : (plan : Plan) (t at polls mine : ℕ) (h : How) (found : ℕ) (phase : Phase) → IsTrue (is_of_primary (after_in plan t (state phase at polls mine) h found phase).0.phase) → IsTrue (is_of_primary phase || is_primary plan t)
+as_primary_in plan t at polls mine h found Outside e = no _ (fails_outside is_of_primary (plan.kind t) plan t (state Outside at polls mine) h found refl refl refl refl refl) e
+as_primary_in plan t at polls mine h found Kicking e = no _ (fails_kicking is_of_primary (state Kicking at polls mine) (offline_from plan (at + 1)) refl refl) e
 as_primary_in plan t at polls mine how.Timeout found OfflineWait e = as_primary_dropping plan t (state OfflineWait at polls mine) e
-as_primary_in plan t at polls mine how.Step found OfflineWait e = no _ (fails_row is_writing (found == offline_count plan) (to (state OfflineWait at polls mine) Arriving, what.Inner) (polled (state OfflineWait at polls mine), what.Poll) refl refl) e
-as_primary_in plan t at polls mine how.Nmi found OfflineWait e = no _ (fails_row is_writing (found == offline_count plan) (to (state OfflineWait at polls mine) Arriving, what.Inner) (polled (state OfflineWait at polls mine), what.Poll) refl refl) e
-as_primary_in plan t at polls mine h found Arriving e = no _ (fails_local is_writing (found == 1) (to (state Arriving at polls mine) Deciding) (wait_in (state Arriving at polls mine) Waiting) refl refl) e
+as_primary_in plan t at polls mine how.Step found OfflineWait e = no _ (fails_row is_of_primary (found == offline_count plan) (to (state OfflineWait at polls mine) Arriving, what.Inner) (polled (state OfflineWait at polls mine), what.Poll) refl refl) e
+as_primary_in plan t at polls mine how.Nmi found OfflineWait e = no _ (fails_row is_of_primary (found == offline_count plan) (to (state OfflineWait at polls mine) Arriving, what.Inner) (polled (state OfflineWait at polls mine), what.Poll) refl refl) e
+as_primary_in plan t at polls mine h found Arriving e = no _ (fails_local is_of_primary (found == 1) (to (state Arriving at polls mine) Deciding) (wait_in (state Arriving at polls mine) Waiting) refl refl) e
 as_primary_in plan t at polls mine h found Deciding e = at_row (found == 0) (go_path plan t (state Deciding at polls mine), what.Go) (drop_path plan t (state Deciding at polls mine), what.Inner) (λ r. AsPrimary plan t r.0.phase) (λ _. as_primary_going plan t (state Deciding at polls mine)) (λ _. as_primary_dropping plan t (state Deciding at polls mine)) e
 as_primary_in plan t at polls mine how.Timeout found Waiting e = at_row (found == 0) (drop_path plan t (state Waiting at polls mine), what.Drop) (by_decision plan t (state Waiting at polls mine) found) (λ r. AsPrimary plan t r.0.phase) (λ _. as_primary_dropping plan t (state Waiting at polls mine)) (λ _. as_primary_by_decision plan t (state Waiting at polls mine) found) e
 as_primary_in plan t at polls mine how.Step found Waiting e = at_row (found == 0) (polled (state Waiting at polls mine), what.Poll) (by_decision plan t (state Waiting at polls mine) found) (λ r. AsPrimary plan t r.0.phase) (λ _ writing. absurd (false≢true writing)) (λ _. as_primary_by_decision plan t (state Waiting at polls mine) found) e
@@ -239,24 +239,24 @@ as_primary_in plan t at polls mine h found Writing e = refl
 as_primary_in plan t at polls mine h found Checking e = refl
 as_primary_in plan t at polls mine h found Reporting e = refl
 as_primary_in plan t at polls mine h found Freeing e = refl
-as_primary_in plan t at polls mine how.Timeout found SiblingWait e = no _ (fails_row is_writing (found == 0) (to (state SiblingWait at polls mine) Halted, what.Halt) (by_release (state SiblingWait at polls mine) found) refl (fails_row is_writing (found == 1) (to (state SiblingWait at polls mine) SiblingCheck, what.Inner) (to (state SiblingWait at polls mine) SiblingCopy, what.Inner) refl refl)) e
-as_primary_in plan t at polls mine how.Step found SiblingWait e = no _ (fails_row is_writing (found == 0) (polled (state SiblingWait at polls mine), what.Poll) (by_release (state SiblingWait at polls mine) found) refl (fails_row is_writing (found == 1) (to (state SiblingWait at polls mine) SiblingCheck, what.Inner) (to (state SiblingWait at polls mine) SiblingCopy, what.Inner) refl refl)) e
-as_primary_in plan t at polls mine how.Nmi found SiblingWait e = no _ (fails_row is_writing (found == 0) (polled (state SiblingWait at polls mine), what.Poll) (by_release (state SiblingWait at polls mine) found) refl (fails_row is_writing (found == 1) (to (state SiblingWait at polls mine) SiblingCheck, what.Inner) (to (state SiblingWait at polls mine) SiblingCopy, what.Inner) refl refl)) e
+as_primary_in plan t at polls mine how.Timeout found SiblingWait e = no _ (fails_row is_of_primary (found == 0) (to (state SiblingWait at polls mine) Halted, what.Halt) (by_release (state SiblingWait at polls mine) found) refl (fails_row is_of_primary (found == 1) (to (state SiblingWait at polls mine) SiblingCheck, what.Inner) (to (state SiblingWait at polls mine) SiblingCopy, what.Inner) refl refl)) e
+as_primary_in plan t at polls mine how.Step found SiblingWait e = no _ (fails_row is_of_primary (found == 0) (polled (state SiblingWait at polls mine), what.Poll) (by_release (state SiblingWait at polls mine) found) refl (fails_row is_of_primary (found == 1) (to (state SiblingWait at polls mine) SiblingCheck, what.Inner) (to (state SiblingWait at polls mine) SiblingCopy, what.Inner) refl refl)) e
+as_primary_in plan t at polls mine how.Nmi found SiblingWait e = no _ (fails_row is_of_primary (found == 0) (polled (state SiblingWait at polls mine), what.Poll) (by_release (state SiblingWait at polls mine) found) refl (fails_row is_of_primary (found == 1) (to (state SiblingWait at polls mine) SiblingCheck, what.Inner) (to (state SiblingWait at polls mine) SiblingCopy, what.Inner) refl refl)) e
 as_primary_in plan t at polls mine h found SiblingCheck e = absurd (false≢true e)
 as_primary_in plan t at polls mine h found SiblingCopy e = absurd (false≢true e)
-as_primary_in plan t at polls mine h found Withdrawing e = no _ (fails_row is_writing (found == 1) (withdraw_at (state Withdrawing at polls mine) (offline_from plan (at + 1)), what.Withdraw at) (to (state Withdrawing at polls mine) Releasing, what.Inner) (fails_withdrawing is_writing (state Withdrawing at polls mine) (offline_from plan (at + 1)) refl refl) refl) e
-as_primary_in plan t at polls mine h found Releasing e = no _ (fails_withdrawing is_writing (state Releasing at polls mine) (offline_from plan (at + 1)) refl refl) e
+as_primary_in plan t at polls mine h found Withdrawing e = no _ (fails_row is_of_primary (found == 1) (withdraw_at (state Withdrawing at polls mine) (offline_from plan (at + 1)), what.Withdraw at) (to (state Withdrawing at polls mine) Releasing, what.Inner) (fails_withdrawing is_of_primary (state Withdrawing at polls mine) (offline_from plan (at + 1)) refl refl) refl) e
+as_primary_in plan t at polls mine h found Releasing e = no _ (fails_withdrawing is_of_primary (state Releasing at polls mine) (offline_from plan (at + 1)) refl refl) e
 as_primary_in plan t at polls mine h found OfflineCount e = absurd (false≢true e)
-as_primary_in plan t at polls mine how.Timeout found OfflineHold e = no _ (fails_row is_writing (found == 0) (to (state OfflineHold at polls mine) Halted, what.Halt) (to (state OfflineHold at polls mine) Leaving, what.Inner) refl refl) e
-as_primary_in plan t at polls mine how.Step found OfflineHold e = no _ (fails_row is_writing (found == 0) (polled (state OfflineHold at polls mine), what.Poll) (to (state OfflineHold at polls mine) Leaving, what.Inner) refl refl) e
-as_primary_in plan t at polls mine how.Nmi found OfflineHold e = no _ (fails_row is_writing (found == 0) (polled (state OfflineHold at polls mine), what.Poll) (to (state OfflineHold at polls mine) Leaving, what.Inner) refl refl) e
+as_primary_in plan t at polls mine how.Timeout found OfflineHold e = no _ (fails_row is_of_primary (found == 0) (to (state OfflineHold at polls mine) Halted, what.Halt) (to (state OfflineHold at polls mine) Leaving, what.Inner) refl refl) e
+as_primary_in plan t at polls mine how.Step found OfflineHold e = no _ (fails_row is_of_primary (found == 0) (polled (state OfflineHold at polls mine), what.Poll) (to (state OfflineHold at polls mine) Leaving, what.Inner) refl refl) e
+as_primary_in plan t at polls mine how.Nmi found OfflineHold e = no _ (fails_row is_of_primary (found == 0) (polled (state OfflineHold at polls mine), what.Poll) (to (state OfflineHold at polls mine) Leaving, what.Inner) refl refl) e
 as_primary_in plan t at polls mine h found Leaving e = absurd (false≢true e)
 as_primary_in plan t at polls mine h found Left e = absurd (false≢true e)
 as_primary_in plan t at polls mine h found Halted e = absurd (false≢true e)
 as_primary_in plan t at polls mine h found Withdrawn e = absurd (false≢true e)
 as_primary_in plan t at polls mine h found Nothing e = absurd (false≢true e)
 
-pub as_primary : (plan : Plan) (t : ℕ) (local : Local) (h : How) (found : ℕ) → IsTrue (is_writing (after plan t local h found).0.phase) → IsTrue (is_writing local.phase || is_primary plan t)
+pub as_primary : (plan : Plan) (t : ℕ) (local : Local) (h : How) (found : ℕ) → IsTrue (is_of_primary (after plan t local h found).0.phase) → IsTrue (is_of_primary local.phase || is_primary plan t)
 unfolding after
 as_primary plan t local h found e = as_primary_in plan t local.at local.polls local.mine h found local.phase e
 

@@ -1,4 +1,5 @@
 pub mod Ascending
+pub mod Linking
 pub mod Touched
 pub mod Leading
 pub mod Ranges

@@ -9,31 +9,31 @@ use Rattle.rendezvous_steps.specs.declared.items.What.TheVariants as what
 use Rattle.rendezvous_steps.specs.Plan.{Plan}
 
 -- the phases before the decision
-abbrev pub is_gathering : Phase → Bool
-is_gathering Outside = true
-is_gathering Kicking = true
-is_gathering OfflineWait = true
-is_gathering Arriving = true
-is_gathering Deciding = true
-is_gathering Waiting = true
-is_gathering phase = false
+abbrev pub is_before_decision : Phase → Bool
+is_before_decision Outside = true
+is_before_decision Kicking = true
+is_before_decision OfflineWait = true
+is_before_decision Arriving = true
+is_before_decision Deciding = true
+is_before_decision Waiting = true
+is_before_decision phase = false
 
 -- the phases in which a group's primary reads, writes, reports and frees
-abbrev pub is_writing : Phase → Bool
-is_writing Reading = true
-is_writing Beginning = true
-is_writing Writing = true
-is_writing Checking = true
-is_writing Reporting = true
-is_writing Freeing = true
-is_writing phase = false
+abbrev pub is_of_primary : Phase → Bool
+is_of_primary Reading = true
+is_of_primary Beginning = true
+is_of_primary Writing = true
+is_of_primary Checking = true
+is_of_primary Reporting = true
+is_of_primary Freeing = true
+is_of_primary phase = false
 
 -- those, and the phases of a sibling that waits for its primary
-abbrev pub is_going : Phase → Bool
-is_going SiblingWait = true
-is_going SiblingCheck = true
-is_going SiblingCopy = true
-is_going phase = is_writing phase
+abbrev pub is_after_go : Phase → Bool
+is_after_go SiblingWait = true
+is_after_go SiblingCheck = true
+is_after_go SiblingCopy = true
+is_after_go phase = is_of_primary phase
 
 -- the phases on the way out
 abbrev pub is_leaving : Phase → Bool

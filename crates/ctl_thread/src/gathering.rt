@@ -5,8 +5,7 @@ ghost use Rattle.rendezvous_steps.specs.StepTable as table;
 ghost use Rattle.rendezvous_steps.specs.declared.steps.Phase.TheVariants.{Outside, Kicking, OfflineWait, Arriving, Deciding, Waiting};
 ghost use Rattle.ctl_words.specs.Plans.{plan_of, IsSound};
 
-use crate::moves::{drop_path, go_path, kick_at, loop_at, polled, to, wait_in};
-use crate::searches::first_offline;
+use crate::moves::{go_path, kick_at, loop_at, polled, to, wait_in};
 use crate::turns::Turn;
 use ctl_words::Plan;
 use rendezvous_steps::{How, Kind, Local, Phase, What};
@@ -20,7 +19,7 @@ impl Turn<'_> {
     {
         match self.plan.kind_of(self.thread) {
             Kind::Offline => after_kick(self.local, self.how, self.found),
-            _ => (entered(self.plan, self.thread, self.local), What::Enter),
+            _ => (self.entered(), What::Enter),
         }
     }
 
@@ -28,13 +27,12 @@ impl Turn<'_> {
     pub fn kicking(&self) -> (Local, What)
         ensures { result ≡ row_of self.now Kicking }
     {
-        let next = first_offline(self.plan, u32::from(self.local.at) + 1);
+        let next = self.first_offline(u32::from(self.local.at) + 1);
         (kick_at(self.local, next), What::Kick(self.local.at))
     }
 
     #[inline(always)]
     pub fn offline_wait(&self) -> (Local, What)
-        requires { IsSound self.now.plan.now }
         ensures { result ≡ row_of self.now OfflineWait }
     {
         match self.how {
@@ -44,9 +42,9 @@ impl Turn<'_> {
                 } else {
                     What::Inner
                 };
-                (drop_path(self.plan, self.thread, self.local), item)
+                (self.drop_path(), item)
             }
-            _ if self.found == u64::from(self.plan.offline()) => (
+            _ if self.found == u64::from(self.offline()) => (
                 to(self.local, Phase::Arriving),
                 What::Inner,
             ),
@@ -72,7 +70,7 @@ impl Turn<'_> {
         if self.found == 0 {
             (go_path(self.plan, self.thread, self.local), What::Go)
         } else {
-            (drop_path(self.plan, self.thread, self.local), What::Inner)
+            (self.drop_path(), What::Inner)
         }
     }
 
@@ -81,10 +79,27 @@ impl Turn<'_> {
         ensures { result ≡ row_of self.now Waiting }
     {
         match (self.found, self.how) {
-            (0, How::Timeout) => (drop_path(self.plan, self.thread, self.local), What::Drop),
+            (0, How::Timeout) => (self.drop_path(), What::Drop),
             (0, _) => (polled(self.local), What::Poll),
             (1, _) => (go_path(self.plan, self.thread, self.local), What::Inner),
-            _ => (drop_path(self.plan, self.thread, self.local), What::Inner),
+            _ => (self.drop_path(), What::Inner),
+        }
+    }
+
+    /// Thread 0 goes on to the kicks, if there is one to make.
+    #[inline(always)]
+    fn entered(&self) -> Local
+        ensures { result ≡ table.entered (plan_of self.now.plan.now) self.now.thread self.now.local.now }
+    {
+        if self.thread == 0 {
+            loop_at(
+                self.local,
+                Phase::Kicking,
+                self.first_offline(0),
+                Phase::Arriving,
+            )
+        } else {
+            to(self.local, Phase::Arriving)
         }
     }
 }
@@ -107,21 +122,5 @@ fn outside_item(how: How, quiet: What) -> What
     match how {
         How::Nmi => What::Ordinary,
         _ => quiet,
-    }
-}
-
-/// Thread 0 goes on to the kicks, if there is one to make.
-fn entered(plan: &Plan, thread: u16, local: &Local) -> Local
-    ensures { result ≡ table.entered (plan_of plan.now) thread local.now }
-{
-    if thread == 0 {
-        loop_at(
-            local,
-            Phase::Kicking,
-            first_offline(plan, 0),
-            Phase::Arriving,
-        )
-    } else {
-        to(local, Phase::Arriving)
     }
 }

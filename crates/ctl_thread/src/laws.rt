@@ -10,7 +10,7 @@ ghost use Rattle.rendezvous_steps.specs.Plan.{Plan, Sound, is_primary};
 ghost use Rattle.ctl_words.specs.Places.{is_word};
 ghost use Rattle.rendezvous_steps.specs.Words.{touched, written};
 ghost use Rattle.rendezvous_steps.specs.StepTable.{operation, after};
-ghost use Rattle.ctl_thread.specs.Promises.{is_gathering, is_going, is_leaving, is_writing, may_touch, OnDecide, OnRevision, is_decision_of, gives_up};
+ghost use Rattle.ctl_thread.specs.Promises.{is_before_decision, is_after_go, is_leaving, is_of_primary, may_touch, OnDecide, OnRevision, is_decision_of, gives_up};
 
 /// A thread touches the counts and the decision, its own words and those of its group. It touches another thread's
 /// control word only where it frees that thread, and another's kick only where it makes it or takes it back.
@@ -31,18 +31,18 @@ pub fn decides_once()
 /// on the way out where it leaves a decision.
 pub fn leaves_the_gathering_by_the_decision()
     ensures go { (plan : Plan) (t : ℕ) (local : Local) (how : How) (found : ℕ)
-        → IsTrue (not (is_going local.phase) && is_going (after plan t local how found).0.phase)
+        → IsTrue (not (is_after_go local.phase) && is_after_go (after plan t local how found).0.phase)
         → IfSome (operation plan t local how) (λ op. (touched op ≡ Decide) × (written op found ≡ 1)) }
     ensures out { (plan : Plan) (t : ℕ) (local : Local) (how : How) (found : ℕ)
-        → IsTrue (is_gathering local.phase && is_leaving (after plan t local how found).0.phase)
+        → IsTrue (is_before_decision local.phase && is_leaving (after plan t local how found).0.phase)
         → IfSome (operation plan t local how) (λ op. (touched op ≡ Decide) × (written op found ≢ 0)) }
 {}
 
 /// Only a primary comes to the phases in which a revision is written, and only in Writing is one written.
 pub fn writes_as_primary()
     ensures primary { (plan : Plan) (t : ℕ) (local : Local) (how : How) (found : ℕ)
-        → IsTrue (is_writing (after plan t local how found).0.phase)
-        → IsTrue (is_writing local.phase || is_primary plan t) }
+        → IsTrue (is_of_primary (after plan t local how found).0.phase)
+        → IsTrue (is_of_primary local.phase || is_primary plan t) }
     ensures writing { (plan : Plan) (t : ℕ) (local : Local) (how : How) (found : ℕ) → local.phase ≢ Writing
         → IfSome (operation plan t local how) (λ op. OnRevision (touched op) (written op found ≡ found)) }
 {}

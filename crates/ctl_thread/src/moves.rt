@@ -4,7 +4,7 @@ ghost use Rattle.std.specs.Prelude.{◌≡◌, ℕ, Option};
 ghost use Rattle.rendezvous_steps.specs.StepTable as table;
 ghost use Rattle.ctl_words.specs.Plans.{plan_of};
 
-use crate::searches::first_offline;
+use crate::turns::Turn;
 use ctl_words::Plan;
 use rendezvous_steps::{Local, Phase, ThreadResult};
 
@@ -89,19 +89,6 @@ pub fn go_path(plan: &Plan, thread: u16, local: &Local) -> Local
     }
 }
 
-/// The drop path: thread 0 takes back the kicks, any other thread leaves.
-#[inline(always)]
-pub fn drop_path(plan: &Plan, thread: u16, local: &Local) -> Local
-    ensures { result ≡ table.drop_path (plan_of plan.now) thread local.now }
-{
-    let dropped = with_result(local, ThreadResult::Timeout, Phase::Leaving);
-    if thread == 0 {
-        withdraw_at(&dropped, first_offline(plan, 0))
-    } else {
-        dropped
-    }
-}
-
 /// The kick of this thread is taken back; without one the thread leaves.
 #[inline(always)]
 pub fn withdraw_at(local: &Local, found: Option<u16>) -> Local
@@ -116,4 +103,19 @@ pub fn free_at(local: &Local, found: Option<u16>) -> Local
     ensures { result ≡ table.free_at local.now found }
 {
     loop_at(local, Phase::Freeing, found, Phase::Leaving)
+}
+
+impl Turn<'_> {
+    /// The drop path: thread 0 takes back the kicks, any other thread leaves.
+    #[inline(always)]
+    pub fn drop_path(&self) -> Local
+        ensures { result ≡ table.drop_path (plan_of self.now.plan.now) self.now.thread self.now.local.now }
+    {
+        let dropped = with_result(self.local, ThreadResult::Timeout, Phase::Leaving);
+        if self.thread == 0 {
+            withdraw_at(&dropped, self.first_offline(0))
+        } else {
+            dropped
+        }
+    }
 }

@@ -1,6 +1,8 @@
 //! What a thread does next.
 
 ghost use Rattle.std.specs.Prelude.{◌≡◌, ◌<◌, ◌↔◌, IsNone, IsTrue};
+ghost use Rattle.rendezvous_steps.specs.declared.operations.Op.TheVariants.{Store};
+ghost use Rattle.rendezvous_steps.specs.declared.operations.Word.TheVariants.{Rev};
 ghost use Rattle.rendezvous_steps.specs.StepTable.{opening, operation, is_last, result_of, write_of, release_of};
 ghost use Rattle.rendezvous_steps.specs.Plan.{offer_or_rev0};
 ghost use Rattle.ctl_words.specs.Plans.{plan_of, IsSound};
@@ -37,7 +39,6 @@ pub fn next(plan: &Plan, thread: u16, local: &Local, how: How) -> Option<Op>
     ensures row { result ≡ operation (plan_of plan.now) thread local.now how }
     ensures none { IsNone result ↔ IsTrue (is_last local.now.phase) }
 {
-    let group = plan.group_of(thread);
     let op = match (local.phase, how) {
         (Phase::Outside, _) => match plan.kind_of(thread) {
             Kind::Offline => Op::Cas(Word::Nmi(thread), 1, 2),
@@ -50,14 +51,21 @@ pub fn next(plan: &Plan, thread: u16, local: &Local, how: How) -> Option<Op>
         (Phase::Deciding, _) => Op::Cas(Word::Decide, 0, 1),
         (Phase::Waiting, How::Timeout) => Op::Cas(Word::Decide, 0, 3 + u64::from(thread)),
         (Phase::Waiting, _) => Op::Load(Word::Decide),
-        (Phase::Reading | Phase::Checking | Phase::SiblingCheck, _) => Op::Load(Word::Rev(group)),
+        (Phase::Reading | Phase::Checking | Phase::SiblingCheck, _) => {
+            Op::Load(Word::Rev(plan.group_of(thread)))
+        }
         (Phase::Beginning, _) => Op::Store(Word::Mode(thread), 2),
-        (Phase::Writing, _) => Op::Store(Word::Rev(group), u64::from(write_of(plan, group))),
-        (Phase::Reporting, _) => Op::Store(Word::Res(group), u64::from(told(local).number())),
+        (Phase::Writing, _) => write(plan, plan.group_of(thread)),
+        (Phase::Reporting, _) => {
+            Op::Store(
+                Word::Res(plan.group_of(thread)),
+                u64::from(told(local).number()),
+            )
+        }
         (Phase::Freeing, _) => Op::Cas(Word::Ctrl(local.at), 0, release_of(local)),
         (Phase::SiblingWait, How::Timeout) => Op::Cas(Word::Ctrl(thread), 0, 3),
         (Phase::SiblingWait, _) => Op::Load(Word::Ctrl(thread)),
-        (Phase::SiblingCopy, _) => Op::Load(Word::Res(group)),
+        (Phase::SiblingCopy, _) => Op::Load(Word::Res(plan.group_of(thread))),
         (Phase::Withdrawing, _) => Op::Cas(Word::Nmi(local.at), 1, 3),
         (Phase::Releasing, _) => Op::Cas(Word::Ctrl(local.at), 0, 2),
         (Phase::OfflineCount, _) => Op::Add(Word::OffIn, 1),
@@ -67,6 +75,14 @@ pub fn next(plan: &Plan, thread: u16, local: &Local, how: How) -> Option<Op>
         (Phase::Left | Phase::Halted | Phase::Withdrawn | Phase::Nothing, _) => return None,
     };
     Some(op)
+}
+
+/// A group's revision is written.
+#[inline(always)]
+fn write(plan: &Plan, group: u16) -> Op
+    ensures { result ≡ Store (Rev group) (write_of (plan_of plan.now) group) }
+{
+    Op::Store(Word::Rev(group), u64::from(write_of(plan, group)))
 }
 
 /// The result that a thread is about to report or to leave with.

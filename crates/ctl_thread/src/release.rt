@@ -9,7 +9,6 @@ ghost use Rattle.ctl_words.specs.Plans.{plan_of, IsSound};
 
 use crate::moves::{free_at, polled, to, wait_in, with_result, withdraw_at};
 use crate::next_step::{offer_or_rev0, told, write_of};
-use crate::searches::{first_offline, first_sibling};
 use crate::turns::Turn;
 use ctl_words::Plan;
 use rendezvous_steps::{How, Local, Phase, ThreadResult, What};
@@ -73,7 +72,7 @@ impl Turn<'_> {
     {
         let mine = told(self.local);
         let reported = with_result(self.local, mine, Phase::Reporting);
-        let next = free_at(&reported, first_sibling(self.plan, self.thread, 0));
+        let next = free_at(&reported, self.first_sibling());
         (next, What::Report(self.plan.group_of(self.thread), mine))
     }
 
@@ -81,10 +80,7 @@ impl Turn<'_> {
     pub fn freeing(&self) -> (Local, What)
         ensures { result ≡ row_of self.now Freeing }
     {
-        let next = free_at(
-            self.local,
-            first_sibling(self.plan, self.thread, u32::from(self.local.at) + 1),
-        );
+        let next = free_at(self.local, self.next_sibling());
         let item = if self.found == 0 {
             What::Free(self.local.at)
         } else {
@@ -136,7 +132,7 @@ impl Turn<'_> {
         ensures { result ≡ row_of self.now Withdrawing }
     {
         if self.found == 1 {
-            let next = first_offline(self.plan, u32::from(self.local.at) + 1);
+            let next = self.first_offline(u32::from(self.local.at) + 1);
             (withdraw_at(self.local, next), What::Withdraw(self.local.at))
         } else {
             (to(self.local, Phase::Releasing), What::Inner)
@@ -147,10 +143,7 @@ impl Turn<'_> {
     pub fn releasing(&self) -> (Local, What)
         ensures { result ≡ row_of self.now Releasing }
     {
-        let next = withdraw_at(
-            self.local,
-            first_offline(self.plan, u32::from(self.local.at) + 1),
-        );
+        let next = withdraw_at(self.local, self.first_offline(u32::from(self.local.at) + 1));
         let item = if self.found == 0 {
             What::Free(self.local.at)
         } else {

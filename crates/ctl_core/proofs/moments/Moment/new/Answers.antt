@@ -14,6 +14,7 @@ returns-clause-fits c =
       latched = c.in_ok-latched.ensures;
       small = record { first = c.revisions_are_small.ensures.first; writes = c.revisions_are_small.ensures.writes };
       counted = c.unfinished.ensures;
+      chained = c.in_ok-chains.ensures;
     }
 
 pub returns-clause-opening : goal.returns-clause-opening
@@ -28,4 +29,5 @@ returns-clause-opening c =
       latched = c.in_ok-latched.ensures;
       small = record { first = c.revisions_are_small.ensures.first; writes = c.revisions_are_small.ensures.writes };
       counted = c.unfinished.ensures;
+      chained = c.in_ok-chains.ensures;
     }

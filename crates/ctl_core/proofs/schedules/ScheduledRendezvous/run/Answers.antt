@@ -5,4 +5,4 @@ use Rattle.ctl_core.proofs.schedules.ScheduledRendezvous.run.Goals as goal
 
 pub returns-clause-answer : goal.returns-clause-answer
 returns-clause-answer g c =
-    schedule_is_run g.S.Sink.stands g.S.Sink.faults (plan_of c.args.plan.now) c.args.beats.now _ _ c.args.out.now c.play.new.out c.play.result c.requires.sound.sound (padded c.args.plan.now c.requires.sound) c.play.ensures.later c.play.ensures.played
+    schedule_is_run g.S.Sink.stands g.S.Sink.faults (plan_of c.args.plan.now) c.args.beats.now _ _ c.args.out.now c.play.new.out c.play.result c.requires.sound.sound (padded c.args.plan.now c.requires.sound) c.play.ensures.later c.play.ensures.still c.play.ensures.played
