@@ -39,8 +39,8 @@ impl<'g, G, R> LiveRun<'g, G, R> {
 }
 
 impl<G: Gate + Sync, R: Threads + Wait> LiveRun<'_, G, R> {
-    /// Runs the rendezvous of a plan. All memory is taken before the first step. It answers the outcome of a closed bay of
-    /// this plan, which it keeps, or want of memory.
+    /// Runs the rendezvous of a plan. All memory is taken before the first step. It answers the outcome of a closed bay
+    /// of this plan, which it keeps, or want of memory.
     pub fn hold(&mut self, alloc: Global, plan: &Plan) -> Result<Outcome, NoMemory>
         requires sound { IsSound plan.now }
         requires few { plan.now.threads ≤ 32 }
