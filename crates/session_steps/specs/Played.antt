@@ -30,6 +30,11 @@ abbrev pub FileCause : Bool → ℕ → ℕ → Type 0
 FileCause true before now = Rose before now
 FileCause false before now = now ≡ before
 
+-- the counts of the sink's faults: a write fault exactly where it rose
+abbrev pub SinkCause : Played → ℕ → ℕ → Type 0
+SinkCause played.WriteFault before now = Rose before now
+SinkCause come before now = now ≡ before
+
 abbrev pub ran_once : Option RunOf → List RunOf
 ran_once None = []
 ran_once (Some run) = run ∷ []

@@ -17,6 +17,11 @@ abbrev pub is_unread : SessionAnswer → Bool
 is_unread session.ReadFault = true
 is_unread answer = false
 
+-- the counts of the sink's faults: a write fault exactly where it rose
+abbrev pub SinkCauseAt : SessionAnswer → ℕ → ℕ → Type 0
+SinkCauseAt session.WriteFault before now = Rose before now
+SinkCauseAt answer before now = now ≡ before
+
 -- commands that may have run, from the opening state on: what was read is what the files hold, where they tell
 pub record MayPlay (lists : Bool) (held : List Read → Type 0) (setting : Setting) (commands : List Command) (dids : List Did) : Type 0 where
   pub steps : Steps lists setting commands dids

@@ -7,14 +7,33 @@ use Rattle.uc_io.specs.declared.sinks.SinkFailed.{SinkFailed}
 use Rattle.top_call.specs.declared.status.Status.{Status}
 use Rattle.top_call.specs.declared.status.Status.TheVariants.{Done, Usage, BadInput, Short, ReadFault, WriteFault, Panicked, NoMemory}
 use Rattle.top_call.specs.Status.{RanToItsEnd}
+use Rattle.top_call.specs.Causes.{WriteCause}
 use Rattle.top_call.specs.Written.{memory_line, GoesWith, HasText, WroteText, StartsText, Written, Ends}
+
+-- a status of a run in which the count of faults stood still
+pub still_cause : (status : Status) (before now : ℕ) → (status ≡ WriteFault → ⊥) → now ≡ before → WriteCause before now status
+still_cause Done before now never still = still
+still_cause (Usage k) before now never still = still
+still_cause BadInput before now never still = still
+still_cause Short before now never still = still
+still_cause ReadFault before now never still = still
+still_cause WriteFault before now never still = absurd (never refl)
+still_cause (Panicked t) before now never still = still
+still_cause NoMemory before now never still = still
 
 module _ {D : Type 0} (stands : D → List ℕ → Type 0) (faults : D → ℕ) (old new : D) where
   -- the status of a run whose last lines were to be written
   pub Ends-written : (text : List ℕ) (meant status : Status) (wrote : Result (Unit {0}) SinkFailed) → Writes stands faults old new text wrote
       → MatchResult wrote (λ _. status ≡ meant) (λ _. status ≡ WriteFault) → Ends stands faults old new text meant status
-  Ends-written text meant status (Ok done) writes is = record { later = writes.later; outcome = inl (is, writes.outcome) }
+  Ends-written text meant status (Ok done) writes is = record { later = writes.later; outcome = inl (is, writes.outcome, writes.still) }
   Ends-written text meant status (Err failed) writes is = record { later = writes.later; outcome = inr (is, writes.outcome.0, writes.outcome.1) }
+
+  -- the cause of the status of a run that was to end otherwise than by a write fault
+  pub ended_cause : (text : List ℕ) (meant status : Status) → (meant ≡ WriteFault → ⊥) → Ends stands faults old new text meant status → WriteCause (faults old) (faults new) status
+  ended_cause text meant status never ends = elim ends.outcome [
+    | inl whole ↦ subst (WriteCause (faults old) (faults new)) (sym whole.0) (still_cause meant (faults old) (faults new) never whole.2)
+    | inr cut ↦ subst (WriteCause (faults old) (faults new)) (sym cut.0) cut.2
+  ]
 
 module _ {D : Type 0} (texts : Option ℕ → List ℕ → Status → Type 0) (rose : Type 0) (stands : D → List ℕ → Type 0) (faults : D → ℕ) (old new : D) where
   -- a whole text is what a run that came to its end wrote

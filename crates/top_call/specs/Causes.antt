@@ -11,7 +11,7 @@ ReadCause before now WriteFault = Unit {0}
 ReadCause before now NoMemory = Unit {0}
 ReadCause before now status = now ≡ before
 
--- a write fault only where the sink's count rose
+-- a write fault exactly where the sink's count rose
 abbrev pub WriteCause : ℕ → ℕ → Status → Type 0
 WriteCause before now WriteFault = Rose before now
-WriteCause before now status = Unit {0}
+WriteCause before now status = now ≡ before

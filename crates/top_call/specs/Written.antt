@@ -65,7 +65,8 @@ Written texts rose stands old new WriteFault = WroteFront texts rose stands old 
 Written texts rose stands old new NoMemory = RanOutOfMemory texts rose stands old new
 Written texts rose stands old new status = WroteText texts stands old new status
 
--- the last lines of a run were written, and it ended with the status meant for it; or they were not all written
+-- The last lines of a run were written, the count of faults stands still, and it ended with the status meant for it; or
+-- they were not all written, and the count rose.
 pub record Ends {D : Type 0} (stands : D → List ℕ → Type 0) (faults : D → ℕ) (old new : D) (text : List ℕ) (meant status : Status) : Type 0 where
   pub later : faults old ≤ faults new
-  pub outcome : ((status ≡ meant) × Grew stands old new text) ⊎ ((status ≡ WriteFault) × GrewByFront stands old new text × Rose (faults old) (faults new))
+  pub outcome : ((status ≡ meant) × Grew stands old new text × (faults new ≡ faults old)) ⊎ ((status ≡ WriteFault) × GrewByFront stands old new text × Rose (faults old) (faults new))

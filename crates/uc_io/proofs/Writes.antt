@@ -15,12 +15,13 @@ rose_late p q r first second rose = grind arith
 rose_early : (p q r : ℕ) → q ≤ r → Rose p q → Rose p r
 rose_early p q r second rose = grind arith
 
-module _ {D : Type 0} (stands : D → List ℕ → Type 0) (faults : D → ℕ) (old mid new : D) (a b : List ℕ) where
-  grew_then : Grew stands old mid a → Grew stands mid new b → Grew stands old new (a ++ b)
-  grew_then first second = record {
-    each = λ taken before. subst (stands new) (append_assoc taken a b) (second.each (taken ++ a) (first.each taken before));
-  }
+-- a list grew by a text, and then by another
+pub Grew-then : {D : Type 0} (stands : D → List ℕ → Type 0) (old mid new : D) (a b : List ℕ) → Grew stands old mid a → Grew stands mid new b → Grew stands old new (a ++ b)
+Grew-then stands old mid new a b first second = record {
+  each = λ taken before. subst (stands new) (append_assoc taken a b) (second.each (taken ++ a) (first.each taken before));
+}
 
+module _ {D : Type 0} (stands : D → List ℕ → Type 0) (faults : D → ℕ) (old mid new : D) (a b : List ℕ) where
   grew_front : Grew stands old mid a → GrewByFront stands mid new b → GrewByFront stands old new (a ++ b)
   grew_front first second = record {
     front = a ++ second.front;
@@ -35,10 +36,12 @@ module _ {D : Type 0} (stands : D → List ℕ → Type 0) (faults : D → ℕ) 
   pub Writes-then : {E : Type 0} (r : Result (Unit {0}) E) → Writes {E = E} stands faults old mid a (Ok tt) → Writes stands faults mid new b r → Writes stands faults old new (a ++ b) r
   Writes-then (Ok done) first second = record {
     later = omega (arith, first.later, second.later);
-    outcome = grew_then first.outcome second.outcome;
+    still = second.still ∙ first.still;
+    outcome = Grew-then stands old mid new a b first.outcome second.outcome;
   }
   Writes-then (Err e) first second = record {
     later = omega (arith, first.later, second.later);
+    still = tt;
     outcome = (grew_front first.outcome second.outcome.0, rose_late _ _ _ first.later second.later second.outcome.1);
   }
 
@@ -48,6 +51,7 @@ module _ {D : Type 0} (stands : D → List ℕ → Type 0) (faults : D → ℕ) 
   Writes-more e (Ok done) err wrote = cc
   Writes-more e (Err f) err wrote = record {
     later = wrote.later;
+    still = tt;
     outcome = (
       record {
         front = wrote.outcome.0.front;

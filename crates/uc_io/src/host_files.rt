@@ -1,52 +1,81 @@
 //! The files of the host.
-ghost use Rattle.std.specs.Prelude.{◌≡◌, ◌<◌, ◌≤◌, [], take, length, IfOk, IfSome};
-ghost use Rattle.std.specs.Io.KnownBytes.{Consumes, IsAtEnd};
-ghost use Rattle.uc_io.specs.Faults.{Rose, one_more};
+ghost use Rattle.std.specs.Prelude.{◌≡◌, ◌<◌, ◌≤◌, [], take, length, Some, IfOk, OnErr, MatchResult};
+ghost use Rattle.std.specs.Io.KnownBytes.{Consumes, Keeps, IsAtEnd};
+ghost use Rattle.uc_io.specs.Faults.{Rose};
 ghost use Rattle.uc_io.specs.Limits.{KeepsLimit};
+ghost use Rattle.uc_io.specs.Pieces.{IsOpened, IsPieceOf};
+ghost use Rattle.uc_io.specs.Reading.{IsReadOf};
 
 use crate::files::{Files, OpenAnswer, ReadAnswer};
 use crate::pieces::{PieceFailed, Pieces};
+use crate::reads::{Unread, read_some, read_whole};
 use std::alloc::Global;
 use std::fs::OpenFile;
-use std::io::{ErrorKind, Read};
-use std::{fs, rt as host};
+use std::{fs, io, rt as host};
 
-/// How many bytes one read asks for.
-const PIECE: usize = 65_536;
+/// A call that failed.
+#[derive(Drop)]
+pub struct Failure {
+    name: Option<String>,
+    why: io::Error,
+}
 
-/// The files of the host, by their paths. They tell nothing of what they hold, since another program can change it.
+impl Failure {
+    /// The name of the file, where it is known and memory for it was there.
+    pub fn name(&self) -> Option<&str> {
+        self.name.as_ref().map(|name| name.as_str())
+    }
+
+    /// What the host says of it.
+    pub fn why(&self) -> io::Error {
+        self.why
+    }
+}
+
+/// The files of the host, by their paths. They tell nothing of what a name holds, since another program can change it.
+/// Where the open file tells what is left of it, `next` takes the front of that.
 #[derive(Drop)]
 pub struct HostFiles<R: host::Files> {
     rt: R,
     opened: Option<R::File>,
+    failure: Option<Failure>,
     faults: u64,
 }
 
 impl<R: host::Files> HostFiles<R> {
-    ghost use Rattle.uc_io.specs.Host.{failed_reads_of};
+    ghost use Rattle.uc_io.specs.Host.{failed_reads_of, left_in};
 
     /// The files that the runtime's object reaches.
     pub fn new(rt: R) -> Self
-        ensures { failed_reads_of result ≡ 0 }
+        ensures faults { failed_reads_of result ≡ 0 }
+        ensures closed { left_in R.File.Read.remaining result ≡ Some [] }
     {
         HostFiles {
             rt,
             opened: None,
+            failure: None,
             faults: 0,
         }
     }
 
-    fn count_fault(&mut self)
-        ensures same { self.new ≡ record self.old { faults = one_more self.old.faults } }
+    /// The last call that failed.
+    pub fn failure(&self) -> Option<&Failure> {
+        self.failure.as_ref()
+    }
+
+    /// Counts a call that failed, and keeps why.
+    fn fail(&mut self, name: Option<String>, why: io::Error)
+        ensures opened { self.new.opened ≡ self.old.opened }
         ensures rose { Rose self.old.faults self.new.faults }
         ensures later { self.old.faults ≤ self.new.faults }
     {
+        self.failure = Some(Failure { name, why });
         self.faults = self.faults.saturating_add(1);
     }
 }
 
 impl<R: host::Files> Pieces for HostFiles<R> {
-    ghost use Rattle.uc_io.specs.Host.{failed_reads_of};
+    ghost use Rattle.uc_io.specs.Host.{failed_reads_of, left_in};
 
     ghost tells = { λ _. ⊥ };
 
@@ -56,42 +85,70 @@ impl<R: host::Files> Pieces for HostFiles<R> {
 
     ghost same_source = { λ _ _. Unit {0} };
 
-    fn next(&mut self, into: &mut [u8]) -> Result<usize, PieceFailed> {
+    fn next(&mut self, into: &mut [u8]) -> Result<usize, PieceFailed>
+        requires { 0 < length into.old }
+        ensures piece { IsPieceOf ⊥ [] [] (failed_reads_of self.old) (failed_reads_of self.new) into.new result }
+        ensures later { failed_reads_of self.old ≤ failed_reads_of self.new }
+        ensures told { MatchResult result
+            (λ taken. Consumes (left_in R.File.Read.remaining self.old) (left_in R.File.Read.remaining self.new) (take taken into.new))
+            (λ _. Keeps (left_in R.File.Read.remaining self.old) (left_in R.File.Read.remaining self.new)) }
+        ensures end { IfOk result (λ taken. taken ≡ 0 → IsAtEnd (left_in R.File.Read.remaining self.new)) }
+    {
         let Some(file) = &mut self.opened else {
             return Ok(0);
         };
-        let answer = read_some(file, into);
-        if answer.is_err() {
-            self.count_fault();
+        match read_some(file, into) {
+            Ok(taken) => Ok(taken),
+            Err(why) => {
+                self.fail(None, why);
+                Err(PieceFailed)
+            }
         }
-        answer
     }
 }
 
 impl<R: host::Files> Files for HostFiles<R> {
     ghost use Rattle.std.proofs.Common.{refl};
+    ghost use Rattle.uc_io.specs.Host.{failed_reads_of, left_in};
 
     ghost holds = { λ _ _. [] };
 
     ghost holds_stay = { λ _ _ _. refl };
 
-    fn read(&mut self, alloc: Global, name: &str, limit: u64) -> Result<Vec<u8>, ReadAnswer> {
+    fn read(&mut self, alloc: Global, name: &str, limit: u64) -> Result<Vec<u8>, ReadAnswer>
+        ensures answer { IsReadOf ⊥ [] limit (failed_reads_of self.old) (failed_reads_of self.new) result }
+        ensures closed { left_in R.File.Read.remaining self.new ≡ Some [] }
+        ensures later { failed_reads_of self.old ≤ failed_reads_of self.new }
+    {
         self.opened = None;
-        let answer = read_file(&self.rt, alloc, name, limit);
-        if let Err(ReadAnswer::Failed) = &answer {
-            self.count_fault();
+        match read_file(&self.rt, alloc, name, limit) {
+            Ok(bytes) => Ok(bytes),
+            Err(Unread::Failed(why)) => {
+                self.fail(String::from_str(alloc, name).ok(), why);
+                Err(ReadAnswer::Failed)
+            }
+            Err(Unread::TooLong(taken)) => Err(ReadAnswer::TooLong(taken)),
+            Err(Unread::NoMemory) => Err(ReadAnswer::NoMemory),
         }
-        answer
     }
 
-    /// Takes no memory.
-    fn open_file(&mut self, _alloc: Global, name: &str) -> Result<(), OpenAnswer> {
-        self.opened = fs::open(&self.rt, name).ok();
-        if self.opened.is_none() {
-            self.count_fault();
-            return Err(OpenAnswer::Failed);
+    /// Takes no memory but for the name of a file that cannot be opened.
+    fn open_file(&mut self, alloc: Global, name: &str) -> Result<(), OpenAnswer>
+        ensures answer { IsOpened ⊥ [] [] (failed_reads_of self.old) (failed_reads_of self.new) result }
+        ensures closed { OnErr result (left_in R.File.Read.remaining self.new ≡ Some []) }
+        ensures later { failed_reads_of self.old ≤ failed_reads_of self.new }
+    {
+        self.opened = None;
+        match fs::open(&self.rt, name) {
+            Ok(file) => {
+                self.opened = Some(file);
+                Ok(())
+            }
+            Err(why) => {
+                self.fail(String::from_str(alloc, name).ok(), why);
+                Err(OpenAnswer::Failed)
+            }
         }
-        Ok(())
     }
 }
 
@@ -101,58 +158,13 @@ fn read_file<R: host::Files>(
     alloc: Global,
     name: &str,
     limit: u64,
-) -> Result<Vec<u8>, ReadAnswer>
+) -> Result<Vec<u8>, Unread>
     ensures { KeepsLimit limit result }
 {
-    let Ok(mut file) = fs::open(rt, name) else {
-        return Err(ReadAnswer::Failed);
-    };
+    let mut file = fs::open(rt, name)?;
     let expected = match file.metadata() {
         Ok(metadata) => metadata.len(),
         Err(_) => 0,
     };
     read_whole(&mut file, alloc, limit, expected.min(limit) as usize)
-}
-
-/// Reads to the end, or until more than `limit` bytes were taken, of which no more than `limit` are kept. It makes room
-/// for the `expected` bytes at once, so that a file of that length is never moved.
-fn read_whole<F: Read>(
-    file: &mut F,
-    alloc: Global,
-    limit: u64,
-    expected: usize,
-) -> Result<Vec<u8>, ReadAnswer>
-    ensures limit { KeepsLimit limit result }
-    ensures whole { IfOk result (λ bytes. IfSome (F.remaining file.old) (λ held. bytes.items ≡ held)) }
-{
-    let mut bytes = Vec::with_capacity(alloc, expected)?;
-    let mut piece = [0; PIECE];
-    for _ in 0..u64::MAX {
-        let taken = read_some(file, &mut piece)?;
-        if taken == 0 {
-            return Ok(bytes);
-        }
-        let length = (bytes.len() + taken) as u64;
-        if length > limit {
-            return Err(ReadAnswer::TooLong(length));
-        }
-        bytes.extend_from_slice(&piece[..taken])?;
-    }
-    Err(ReadAnswer::Failed)
-}
-
-/// One read, which is tried again where a signal interrupts it.
-fn read_some<F: Read>(file: &mut F, piece: &mut [u8]) -> Result<usize, PieceFailed>
-    ensures bound { IfOk result (λ taken. taken ≤ length piece.new) }
-    ensures ok { IfOk result (λ taken. Consumes (F.remaining file.old) (F.remaining file.new) (take taken piece.new)) }
-    ensures end { IfOk result (λ taken. taken ≡ 0 → 0 < length piece.old → IsAtEnd (F.remaining file.new)) }
-{
-    for _ in 0..u64::MAX {
-        match file.read(piece) {
-            Ok(taken) => return Ok(taken),
-            Err(error) if error.kind() == ErrorKind::Interrupted => {}
-            Err(_) => return Err(PieceFailed),
-        }
-    }
-    Err(PieceFailed)
 }

@@ -15,11 +15,12 @@ mod memory_sink;
 mod opened;
 mod out_sink;
 mod pieces;
+mod reads;
 mod sinks;
 mod sure_files;
 
 pub use files::{Files, OpenAnswer, ReadAnswer};
-pub use host_files::HostFiles;
+pub use host_files::{Failure, HostFiles};
 pub use lines::write_line;
 pub use memory_files::MemFiles;
 pub use memory_sink::MemSink;

@@ -1,50 +1,51 @@
-//! Standard output.
-ghost use Rattle.std.specs.Prelude.{◌≡◌, ◌<◌, ℕ, List, [], OnOk};
-ghost use Rattle.arrayvec.specs.ArrayVec.{array_vec_len};
+//! Standard output, or another writer.
+ghost use Rattle.std.specs.Prelude.{◌≡◌, ℕ, List, [], OnOk};
 ghost use Rattle.uc_io.specs.Gathering.{Gathers};
 
 use crate::gathering::{BLOCK, gather, hand_on};
 use crate::sinks::{Sink, SinkFailed};
 use arrayvec::ArrayVec;
-use std::io;
+use std::io::Write;
 
-/// Writes to standard output. It gathers what it takes, hands 65,536 bytes on at once, and what is left by `finish`,
-/// without which that is lost. A failure shows in the call that hands on; what was held then is gone. It tells nothing of
-/// what another program gets to see, so it stands for no list.
+/// Writes to a writer, such as standard output (`std::io::writer`). It gathers what it takes, hands 65,536 bytes on at
+/// once, and what is left by `finish`, without which that is lost. A failure shows in the call that hands on; what could
+/// not be written is still held, and the next call tries it again.
+///
+/// It stands for what the writer holds with what is held behind it, where the writer tells what it holds. Standard output
+/// does not, since what another program gets to see of it is not known here, and the sink then stands for no list.
 #[derive(Drop)]
-pub struct OutSink<R> {
-    rt: R,
+pub struct OutSink<W> {
+    to: W,
     held: ArrayVec<u8, BLOCK>,
     faults: u64,
-    ghost room: { array_vec_len held < 65536 },
 }
 
-impl<R> OutSink<R> {
-    ghost use Rattle.uc_io.specs.Host.{failed_writes_of, held_by};
+impl<W> OutSink<W> {
+    ghost use Rattle.uc_io.specs.Host.{failed_writes_of, held_by, writer_of};
 
-    /// The standard output of the runtime's object.
-    pub fn new(rt: R) -> Self
+    pub fn new(to: W) -> Self
+        ensures writer { writer_of result ≡ to }
         ensures faults { failed_writes_of result ≡ 0 }
         ensures held { held_by result ≡ [] }
     {
         OutSink {
-            rt,
+            to,
             held: ArrayVec::new(),
             faults: 0,
         }
     }
 }
 
-impl<R: Print> OutSink<R> {
-    ghost use Rattle.uc_io.specs.Host.{failed_writes_of, held_by, NoList};
+impl<W: Write> OutSink<W> {
+    ghost use Rattle.uc_io.specs.Host.{failed_writes_of, held_by, StandsFor};
     ghost use Rattle.uc_io.specs.Writing.{Writes};
 
     /// Hands on what is held. It is to be called at the end, and wherever what was written is to be seen at once.
     pub fn finish(&mut self) -> Result<(), SinkFailed>
-        ensures writes { Writes NoList failed_writes_of self.old self.new [] result }
-        ensures held { held_by self.new ≡ [] }
+        ensures writes { Writes (StandsFor W.contents) failed_writes_of self.old self.new [] result }
+        ensures held { OnOk result (held_by self.new ≡ []) }
     {
-        let wrote = hand_on(&mut io::writer(&self.rt), &mut self.held);
+        let wrote = hand_on(&mut self.to, &mut self.held);
         if wrote.is_err() {
             self.faults = self.faults.saturating_add(1);
         }
@@ -52,19 +53,19 @@ impl<R: Print> OutSink<R> {
     }
 }
 
-impl<R: Print> Sink for OutSink<R> {
-    ghost use Rattle.uc_io.specs.Host.{failed_writes_of, held_by, NoList};
+impl<W: Write> Sink for OutSink<W> {
+    ghost use Rattle.uc_io.specs.Host.{failed_writes_of, held_by, StandsFor};
     ghost use Rattle.uc_io.specs.Writing.{Writes};
 
-    ghost stands = { NoList };
+    ghost stands = { StandsFor W.contents };
 
     ghost faults = { failed_writes_of };
 
     fn write(&mut self, piece: &[u8]) -> Result<(), SinkFailed>
-        ensures writes { Writes NoList failed_writes_of self.old self.new piece.now result }
+        ensures writes { Writes (StandsFor W.contents) failed_writes_of self.old self.new piece.now result }
         ensures gathers { OnOk result ((done : List ℕ) × Gathers (held_by self.old) piece.now done (held_by self.new)) }
     {
-        let wrote = gather(&mut io::writer(&self.rt), &mut self.held, piece);
+        let wrote = gather(&mut self.to, &mut self.held, piece);
         if wrote.is_err() {
             self.faults = self.faults.saturating_add(1);
         }

@@ -1,9 +1,11 @@
 use super::*;
-use crate::gathering::{gather, hand_on};
+use crate::gathering::{BLOCK, gather, hand_on};
+use crate::reads::read_some;
 use arrayvec::ArrayVec;
 use std::alloc::{AllocError, Global};
-use std::fs;
+use std::io::{ErrorKind, Read, Write};
 use std::test::Fail;
+use std::{fs, io};
 
 /// How a read ended, without its bytes.
 #[derive(Clone, Copy, Debug, PartialEq, Eq)]
@@ -158,9 +160,135 @@ fn files_of_the_host_are_read_whole(rt: HostRuntime) -> Result<(), Fail> {
     Ok(())
 }
 
+/// A file of one byte and a folder, by their names.
+const FILE: &str = "one_byte.bin";
+
+const FOLDER: &str = "a_folder";
+
+#[test]
+fn a_folder_is_no_file(rt: HostRuntime) -> Result<(), Fail> {
+    fs::create_dir(&rt, FOLDER)?;
+    let mut files = HostFiles::new(rt.clone()?);
+    let whole = files.read(rt.alloc(), FOLDER, 10);
+    let opened = files.open_file(rt.alloc(), FOLDER);
+    let piece = files.next(&mut [0; 10]);
+    fs::remove_dir(&rt, FOLDER)?;
+    assert_eq!(rt; ending_of(&whole), Ending::Failed);
+    assert!(rt;
+        files
+            .failure()
+            .is_some_and(|failure| failure.why().kind() == ErrorKind::IsADirectory)
+    );
+    assert!(rt; opened.is_ok());
+    assert!(rt; piece == Err(PieceFailed));
+    Ok(())
+}
+
+#[test]
+fn nothing_is_open_after_a_read_or_a_refusal(rt: HostRuntime) -> Result<(), Fail> {
+    fs::write(&rt, FILE, b"x")?;
+    let mut files = HostFiles::new(rt.clone()?);
+    let mut piece = [0; 10];
+    let before = files.next(&mut piece);
+    files.open_file(rt.alloc(), FILE)?;
+    let whole = files.read(rt.alloc(), FILE, 1)?;
+    let after_read = files.next(&mut piece);
+    files.open_file(rt.alloc(), FILE)?;
+    let refused = files.open_file(rt.alloc(), "missing.bin");
+    let after_refusal = files.next(&mut piece);
+    let failure = files.failure().ok_or("no failure")?;
+    assert!(rt;
+        failure.name() == Some("missing.bin") && failure.why().kind() == ErrorKind::NotFound
+    );
+    files.open_file(rt.alloc(), FILE)?;
+    let opened = files.next(&mut piece);
+    fs::remove_file(&rt, FILE)?;
+    assert_eq!(rt; whole.as_slice(), b"x".as_slice());
+    assert!(rt; refused.is_err());
+    assert!(rt; before == Ok(0) && after_read == Ok(0) && after_refusal == Ok(0));
+    assert!(rt; opened == Ok(1));
+    Ok(())
+}
+
+/// Holds bytes up to its room, of which it takes and gives at most 1,000 at a time. Its first call is interrupted.
+#[derive(Drop)]
+struct Narrow {
+    held: Vec<u8>,
+    room: usize,
+    was_interrupted: bool,
+}
+
+impl Narrow {
+    fn new(alloc: Global, room: usize) -> Narrow {
+        Narrow {
+            held: Vec::new(alloc),
+            room,
+            was_interrupted: false,
+        }
+    }
+
+    fn interrupt_once(&mut self) -> io::Result<()> {
+        if self.was_interrupted {
+            return Ok(());
+        }
+        self.was_interrupted = true;
+        Err(ErrorKind::Interrupted.into())
+    }
+}
+
+impl Write for Narrow {
+    fn write(&mut self, buf: &[u8]) -> io::Result<usize> {
+        self.interrupt_once()?;
+        let room = self.room.saturating_sub(self.held.len());
+        let taken = buf.len().min(room).min(1_000);
+        self.held.extend_from_slice(&buf[..taken])?;
+        Ok(taken)
+    }
+
+    fn flush(&mut self) -> io::Result<()> {
+        Ok(())
+    }
+}
+
+impl Read for Narrow {
+    fn read(&mut self, buf: &mut [u8]) -> io::Result<usize> {
+        self.interrupt_once()?;
+        let mut left = self.held.as_slice();
+        left.read(buf)
+    }
+}
+
+#[test]
+fn an_interrupted_read_is_tried_again(rt: HostRuntime) -> Result<(), Fail> {
+    let mut file = Narrow::new(rt.alloc(), 3);
+    file.held.extend_from_slice(b"xyz")?;
+    let mut piece = [0; 2];
+    assert!(rt; read_some(&mut file, &mut piece).is_ok_and(|taken| taken == 2));
+    assert!(rt; piece == *b"xy");
+    Ok(())
+}
+
+#[test]
+fn what_is_not_written_is_held_and_tried_again(rt: HostRuntime) -> Result<(), Fail> {
+    let all = pattern(rt.alloc(), 200_000)?;
+    let mut to = Narrow::new(rt.alloc(), 70_001);
+    let mut held: ArrayVec<u8, BLOCK> = ArrayVec::new();
+    assert!(rt; gather(&mut to, &mut held, &all).is_err());
+    assert_eq!(rt; to.held.len(), 70_001);
+    let taken = to.held.len() + held.len();
+    assert!(rt; hand_on(&mut to, &mut held).is_err());
+    assert_eq!(rt; to.held.len() + held.len(), taken);
+    to.room = 200_000;
+    let behind = all.get(taken..).ok_or("more than all was taken")?;
+    assert!(rt; gather(&mut to, &mut held, behind).is_ok());
+    assert!(rt; hand_on(&mut to, &mut held).is_ok());
+    assert!(rt; to.held == all);
+    Ok(())
+}
+
 #[test]
 fn standard_output_takes_a_line(rt: HostRuntime) -> Result<(), Fail> {
-    let mut out = OutSink::new(rt.clone()?);
+    let mut out = OutSink::new(io::writer(&rt));
     assert!(rt; write_line(&mut out, &[b"answer ", b"done\n"]).is_ok());
     assert!(rt; out.write(b"").is_ok());
     assert!(rt; out.finish().is_ok());

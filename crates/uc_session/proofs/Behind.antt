@@ -3,7 +3,7 @@ use Rattle.std.proofs.Common.{◌≡◌, ℕ, ◌+◌, ◌≤◌, Bool, true, fa
 use Rattle.std.proofs.lemmas.Bool.{false≢true}
 use Rattle.uc_io.specs.Faults.{Rose}
 use Rattle.uc_io.specs.Writing.{Grew, Writes}
-use Rattle.uc_io.proofs.Writes.{Writes-then}
+use Rattle.uc_io.proofs.Writes.{Grew-then, Writes-then}
 use Rattle.top_call.specs.Written.{IsFront}
 use Rattle.file_reads.specs.Reads.{Read}
 use Rattle.rendezvous_rule.specs.Runs.{RunOf}
@@ -87,15 +87,14 @@ module _ {D : Type 0} (stands : D → List ℕ → Type 0) (faults : D → ℕ) 
   told {E = E} first mid last (Ok done) shown rest =
       let all : Writes {E = E} stands faults first last (did.shown ++ told_of one did) (Ok done) =
       Writes-then stands faults first mid last did.shown (told_of one did) {E = E} (Ok done) shown rest in
-      record { later = all.later; follows = record { is_answer = refl; is_after = refl; grew = all.outcome } }
+      record { later = all.later; cause = all.still; follows = record { is_answer = refl; is_after = refl; grew = all.outcome } }
   told {E = E} first mid last (Err failed) shown rest =
       let all : Writes {E = E} stands faults first last (did.shown ++ told_of one did) (Err failed) =
       Writes-then stands faults first mid last did.shown (told_of one did) {E = E} (Err failed) shown rest in
       let front : List ℕ = rest.outcome.0.front in
-      let grew : Writes {E = E} stands faults first last (did.shown ++ front) (Ok tt) =
-      Writes-then stands faults first mid last did.shown front {E = E} (Ok tt) shown (record { later = rest.later; outcome = rest.outcome.0.grew }) in
       record {
         later = all.later;
+        cause = all.outcome.1;
         follows = (
           record {
             front = did.shown ++ front;
@@ -103,7 +102,7 @@ module _ {D : Type 0} (stands : D → List ℕ → Type 0) (faults : D → ℕ) 
               rest.outcome.0.rest,
               ap (λ text. did.shown ++ text) rest.outcome.0.split ∙ sym (append_assoc did.shown front rest.outcome.0.rest),
             );
-            grew = grew.outcome;
+            grew = Grew-then stands first mid last did.shown front shown.outcome rest.outcome.0.grew;
           },
           is_new did.shown front old did.after,
           all.outcome.1,
@@ -120,10 +119,10 @@ module _ {D : Type 0} (stands : D → List ℕ → Type 0) (faults : D → ℕ) 
     }
 
     pub cut : Rose (faults first) (faults last) → Follows stands faults one did old old first last WriteFault
-    cut rose = record { later = later; follows = (shown_front, still_old front rest did.shown old did.after split, rose) }
+    cut rose = record { later = later; cause = rose; follows = (shown_front, still_old front rest did.shown old did.after split, rose) }
 
-    pub out : Follows stands faults one did old old first last NoMemory
-    out = record { later = later; follows = (shown_front, refl) }
+    pub out : faults last ≡ faults first → Follows stands faults one did old old first last NoMemory
+    out still = record { later = later; cause = still; follows = (shown_front, refl) }
 
 -- ---- with the heading
 
@@ -133,28 +132,26 @@ module _ {D : Type 0} (stands : D → List ℕ → Type 0) (faults : D → ℕ) 
       Writes {E = E} stands faults first mid (heading k one) (Ok tt) → Follows stands faults one did old new mid last come →
       IsPlayed stands faults lists held setting k one files_before files_now runs_before runs_now old new first last come
   after_heading {E = E} first mid last (Answered answer) kept head rest =
-      let all : Writes {E = E} stands faults first last (heading k one ++ (did.shown ++ told_of one did)) (Ok tt) =
-      Writes-then stands faults first mid last (heading k one) (did.shown ++ told_of one did) {E = E} (Ok tt) head (record { later = rest.later; outcome = rest.follows.grew }) in
+      let all : Grew stands first last (heading k one ++ (did.shown ++ told_of one did)) =
+      Grew-then stands first mid last (heading k one) (did.shown ++ told_of one did) head.outcome rest.follows.grew in
       record {
         did = did;
         may = may;
         is_answer = rest.follows.is_answer;
         is_after = rest.follows.is_after;
-        grew = subst (λ text. Grew stands first last text) (sym (parts_of k one did)) all.outcome;
+        grew = subst (λ text. Grew stands first last text) (sym (parts_of k one did)) all;
         cause = subst (λ a. FileCause (is_read_fault a) files_before files_now) (sym rest.follows.is_answer) cause;
         kept = kept answer refl;
       }
   after_heading {E = E} first mid last WriteFault kept head rest =
       let wrote : WroteFront stands one did mid last = rest.follows.0 in
-      let grew : Writes {E = E} stands faults first last (heading k one ++ wrote.front) (Ok tt) =
-      Writes-then stands faults first mid last (heading k one) wrote.front {E = E} (Ok tt) head (record { later = rest.later; outcome = wrote.grew }) in
       record {
         did = did;
         front = heading k one ++ wrote.front;
         starts = record {
           may = may;
           is_front = longer_front k one did wrote.front wrote.is_front;
-          grew = grew.outcome;
+          grew = Grew-then stands first mid last (heading k one) wrote.front head.outcome wrote.grew;
           by_fault = by_fault (is_read_fault did.answer) files_before files_now cause;
         };
         left = with_heading (heading k one) wrote.front did.shown old new did.after rest.follows.1;
@@ -162,15 +159,13 @@ module _ {D : Type 0} (stands : D → List ℕ → Type 0) (faults : D → ℕ) 
       }
   after_heading {E = E} first mid last NoMemory kept head rest =
       let wrote : WroteFront stands one did mid last = rest.follows.0 in
-      let grew : Writes {E = E} stands faults first last (heading k one ++ wrote.front) (Ok tt) =
-      Writes-then stands faults first mid last (heading k one) wrote.front {E = E} (Ok tt) head (record { later = rest.later; outcome = wrote.grew }) in
       record {
         did = did;
         front = heading k one ++ wrote.front;
         starts = record {
           may = may;
           is_front = longer_front k one did wrote.front wrote.is_front;
-          grew = grew.outcome;
+          grew = Grew-then stands first mid last (heading k one) wrote.front head.outcome wrote.grew;
           by_fault = by_fault (is_read_fault did.answer) files_before files_now cause;
         };
         same = rest.follows.1;

@@ -12,20 +12,38 @@ use Rattle.script_text.specs.declared.command.Command.{Command}
 use Rattle.script_text.specs.declared.command.Command.TheVariants as command
 use Rattle.script_text.specs.Within.{fits_command}
 use Rattle.session_text.specs.declared.answers.CommandAnswer.{CommandAnswer}
-use Rattle.session_text.specs.declared.answers.CommandAnswer.TheVariants.{Load}
+use Rattle.session_text.specs.declared.answers.CommandAnswer.TheVariants.{Done, Hot, Load}
 use Rattle.session_text.specs.declared.answers.LoadAnswer.TheVariants as load
 use Rattle.session_text.specs.declared.answers.SessionAnswer.{SessionAnswer}
 use Rattle.session_steps.specs.State.{Setting, State, machine_of, opening_state}
 use Rattle.session_steps.specs.Did.{Did}
 use Rattle.session_steps.specs.Session.{ends_session, is_done, ended_by, answer_by, short_unless}
 use Rattle.session_steps.specs.Played.{Answers, Starts}
-use Rattle.session_steps.specs.Whole.{PlaysWhole, PlaysFront, IsPlayedThrough}
+use Rattle.session_steps.specs.Whole.{PlaysWhole, PlaysFront, IsPlayedThrough, SinkCauseAt}
 use Rattle.session_laws.specs.Standing.{InRange}
 use Rattle.session_runs.specs.SoFar.{PlayedSoFar}
 use Rattle.session_runs.specs.Laws.{BegunGoesOn}
 use Rattle.session_runs.proofs.Within.{limits_of, beats_in_range}
 use Rattle.session_runs.proofs.Played.{all_played, one_more, last_played, cut_short}
 use Rattle.uc_session.specs.Playing.{BeatsInRange}
+
+-- a count that stood still until a command ended the session
+pub still_at : (answer : CommandAnswer) (before now : ℕ) → now ≡ before →
+    SinkCauseAt (answer_by (ended_by answer) false) before now
+still_at Done before now still = still
+still_at (Hot hot) before now still = still
+still_at (Load load.Done) before now still = still
+still_at (Load (load.Busy t)) before now still = still
+still_at (Load (load.ReadFault file)) before now still = still
+still_at (Load (load.BadFile file fault)) before now still = still
+still_at (Load load.NotFound) before now still = still
+still_at (Load (load.PoolFull blocks)) before now still = still
+still_at (Load (load.Panicked t)) before now still = still
+still_at (Load (load.Unfinished t)) before now still = still
+still_at (Load (load.OfflineSilent kicks)) before now still = still
+still_at (Load (load.TimedOut t)) before now still = still
+still_at (Load (load.Failed t)) before now still = still
+still_at (Load (load.Incomplete t)) before now still = still
 
 -- ---- one command of a list
 

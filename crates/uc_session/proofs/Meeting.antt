@@ -2,7 +2,7 @@
 use Rattle.std.proofs.Common.{◌≡◌, ℕ, Bool, false, List, ◌++◌, Option, Some, Result, Ok, Err, refl, sym, ap, ◌∙◌, subst, arith, append_assoc}
 use Rattle.uc_io.specs.Faults.{Rose}
 use Rattle.uc_io.specs.Writing.{Writes}
-use Rattle.uc_io.proofs.Writes.{Writes-then}
+use Rattle.uc_io.proofs.Writes.{Grew-then, Writes-then}
 use Rattle.file_entries.specs.Entry.{Entry}
 use Rattle.file_reads.specs.Reads.{Read, AreHeld}
 use Rattle.rendezvous_steps.specs.declared.ends.Beat.{Beat}
@@ -71,13 +71,12 @@ module _ {D : Type 0} (stands : D → List ℕ → Type 0) (faults : D → ℕ) 
     late = is.answer.late;
     ran = is.answer.ran;
     wrote = Writes-then stands faults before mid now offered is.answer.text {E = Unit {0}} (Ok tt)
-        (record { later = wrote.later; outcome = wrote.outcome }) (record { later = is.later; outcome = is.answer.grew });
+        (record { later = wrote.later; still = wrote.still; outcome = wrote.outcome })
+        (record { later = is.later; still = is.still; outcome = is.answer.grew });
     kept = is.answer.kept;
   }
   they_met {E = E} runs_before runs_now before mid now (Err run.WriteFault) some wrote is =
-      let front : List ℕ = is.answer.front.front in
-      let grew : Writes {E = E} stands faults before now (offered ++ front) (Ok tt) =
-      Writes-then stands faults before mid now offered front {E = E} (Ok tt) wrote (record { later = is.later; outcome = is.answer.front.grew }) in (
+      let front : List ℕ = is.answer.front.front in (
         record {
           run = is.answer.run;
           front = offered ++ front;
@@ -85,21 +84,23 @@ module _ {D : Type 0} (stands : D → List ℕ → Type 0) (faults : D → ℕ) 
             is.answer.front.rest,
             ap (λ text. offered ++ text) is.answer.front.split ∙ sym (append_assoc offered front is.answer.front.rest),
           );
-          later = grew.later;
-          grew = grew.outcome;
+          later = omega (arith, wrote.later, is.later);
+          grew = Grew-then stands before mid now offered front wrote.outcome is.answer.front.grew;
         },
         grind (arith, wrote.later, is.later, is.answer.rose),
       )
   they_met {E = E} runs_before runs_now before mid now (Err run.NoMemory) some wrote is =
       let grew : Writes {E = E} stands faults before now offered (Ok tt) =
-      subst (λ (last : D). Writes {E = E} stands faults before last offered (Ok tt)) (sym is.answer.same_sink) wrote in
-      record {
-        run = some;
-        front = offered;
-        is_front = (some.text, refl);
-        later = grew.later;
-        grew = grew.outcome;
-      }
+      subst (λ (last : D). Writes {E = E} stands faults before last offered (Ok tt)) (sym is.answer.same_sink) wrote in (
+        record {
+          run = some;
+          front = offered;
+          is_front = (some.text, refl);
+          later = grew.later;
+          grew = grew.outcome;
+        },
+        grew.still,
+      )
 
 -- ---- the load
 
@@ -253,17 +254,17 @@ module _ (lists : Bool) (setting : Setting) (old : State) (force : Bool) (names 
             (playing.cut stands faults one did old before now cut.front cut.is_front.0 cut.later split cut.grew rose)
 
         -- memory ran out
-        pub is_out : Done old now NoMemory
-        is_out =
+        pub is_out : faults now ≡ faults before → Done old now NoMemory
+        is_out still =
             stops NoMemory (λ answer is. cc)
-            (playing.out stands faults one did old before now cut.front cut.is_front.0 cut.later split cut.grew)
+            (playing.out stands faults one did old before now cut.front cut.is_front.0 cut.later split cut.grew still)
 
       -- no outcome came of it
       pub is_stopped : VerdictHolds → (now : D) (answer : RunAnswer) →
           Meets stands faults lists plan beats offered runs_before runs_now before now (Err answer) →
           Done old now (cut_short answer)
       is_stopped verdicts now run.WriteFault is = is_cut verdicts now is.0 is.1
-      is_stopped verdicts now run.NoMemory is = is_out verdicts now is
+      is_stopped verdicts now run.NoMemory is = is_out verdicts now is.0 is.1
 
       -- the threads met, the state has changed, and the rest was written, or not all of it
       pub is_met : {E : Type 0} (mid now : D) (outcome : Outcome) (found : Verdict) (r : Result (Unit {0}) E) →
@@ -280,7 +281,7 @@ module _ (lists : Bool) (setting : Setting) (old : State) (force : Bool) (names 
           let rest : Follows stands faults one made old made.after before now (come made.answer r) =
           playing.told stands faults one made old before mid now r
           (subst (λ text. Writes {E = E} stands faults before mid text (Ok tt)) (sym (shown_is came.items outcome came.late (answer_of found)))
-          (record { later = came.wrote.later; outcome = came.wrote.outcome }))
+          (record { later = came.wrote.later; still = came.wrote.still; outcome = came.wrote.outcome }))
           (subst (λ text. Writes stands faults mid now text r) (sym same) wrote) in
           record {
             did = made;

@@ -24,10 +24,12 @@ module _ {D : Type 0} (stands : D → List ℕ → Type 0) (faults : D → ℕ) 
       Follows stands faults one (did_by reads acted new) old new first last come
   follows reads acted first last (Answered answer) told = record {
     later = told.1.later;
+    cause = told.1.still;
     follows = record { is_answer = told.0; is_after = refl; grew = told.1.outcome };
   }
   follows reads acted first last WriteFault told = record {
     later = told.later;
+    cause = told.outcome.1;
     follows = (
       record { front = told.outcome.0.front; is_front = (told.outcome.0.rest, told.outcome.0.split); grew = told.outcome.0.grew },
       is_new [] told.outcome.0.front old new,
@@ -61,6 +63,7 @@ module _ {D : Type 0} (stands : D → List ℕ → Type 0) (faults : D → ℕ) 
     cause = subst (λ (unread : Bool). FileCause unread files_before files_now) (sym some.all_read) still;
     rest = record {
       later = omega arith;
+      cause = refl;
       follows = (
         record {
           front = [];

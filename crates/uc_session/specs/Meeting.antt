@@ -38,7 +38,7 @@ Meets stands faults lists plan beats offered runs_before runs_now before now (Ok
 Meets stands faults lists plan beats offered runs_before runs_now before now (Err WriteFault) =
     CutShort stands faults lists plan beats offered before now × Rose (faults before) (faults now)
 Meets stands faults lists plan beats offered runs_before runs_now before now (Err NoMemory) =
-    CutShort stands faults lists plan beats offered before now
+    CutShort stands faults lists plan beats offered before now × (faults now ≡ faults before)
 
 -- a call whose rendezvous came to no outcome
 abbrev pub cut_short : RunAnswer → Played

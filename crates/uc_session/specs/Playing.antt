@@ -15,7 +15,7 @@ use Rattle.session_steps.specs.State.{Setting, State}
 use Rattle.session_steps.specs.Did.{Did}
 use Rattle.session_steps.specs.Step.{SessionStep}
 use Rattle.session_steps.specs.Session.{names_in}
-use Rattle.session_steps.specs.Played.{LeftBy, FileCause, is_read_fault, ran_once}
+use Rattle.session_steps.specs.Played.{LeftBy, FileCause, SinkCause, is_read_fault, ran_once}
 
 -- what comes behind the heading and what is shown
 abbrev pub told_of : Command → Did → List ℕ
@@ -41,6 +41,7 @@ FollowsBy stands faults one did old new before now NoMemory = WroteFront stands 
 
 pub record Follows {D : Type 0} (stands : D → List ℕ → Type 0) (faults : D → ℕ) (one : Command) (did : Did) (old new : State) (before now : D) (come : Played) : Type 0 where
   pub later : faults before ≤ faults now
+  pub cause : SinkCause come (faults before) (faults now)
   pub follows : FollowsBy stands faults one did old new before now come
 
 -- the command was done, or is cut short: what was read is what the files hold, where they tell, and a file is unread exactly

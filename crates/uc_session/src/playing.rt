@@ -8,7 +8,7 @@ ghost use Rattle.session_laws.specs.Standing.{Standing, InRange};
 ghost use Rattle.session_steps.specs.State.{machine_of};
 ghost use Rattle.session_steps.specs.Did.{ups_text};
 ghost use Rattle.session_steps.specs.Session.{names_in};
-ghost use Rattle.session_steps.specs.Played.{IsPlayed};
+ghost use Rattle.session_steps.specs.Played.{IsPlayed, SinkCause};
 ghost use Rattle.session_parts.specs.Parts.{setting_of, state_of};
 ghost use Rattle.uc_session.specs.Playing.{Tells, Does, BeatsInRange};
 
@@ -92,6 +92,7 @@ pub fn play<R: Rendezvous, F: Files, S: Sink>(
     ensures still { F.tells files.old → F.tells files.new }
     ensures later { F.faults files.old ≤ F.faults files.new }
     ensures sink_later { S.faults out.old ≤ S.faults out.new }
+    ensures sink_cause { SinkCause result (S.faults out.old) (S.faults out.new) }
     ensures most_stays { R.limit how.new ≡ R.limit how.old }
 {
     each_command_does_something();

@@ -4,7 +4,7 @@ ghost use Rattle.std.specs.Prelude.{◌≡◌, ◌≤◌, ◌&&◌, ℕ, true, f
 ghost use Rattle.file_reads.specs.Reads.{AreHeld};
 ghost use Rattle.script_text.specs.Within.{IsWithin};
 ghost use Rattle.session_steps.specs.Session.{answer_by, ended_by, ends_session, is_done};
-ghost use Rattle.session_steps.specs.Whole.{IsPlayedThrough};
+ghost use Rattle.session_steps.specs.Whole.{IsPlayedThrough, SinkCauseAt};
 
 use crate::sessions::Session;
 use command_laws::each_command_does_something;
@@ -58,6 +58,7 @@ pub fn run_session<R: Rendezvous, F: Files, S: Sink>(
     ensures still { F.tells files.old → F.tells files.new }
     ensures later { F.faults files.old ≤ F.faults files.new }
     ensures sink_later { S.faults out.old ≤ S.faults out.new }
+    ensures sink_cause { SinkCauseAt result (S.faults out.old) (S.faults out.new) }
     ensures most_stays { R.limit how.new ≡ R.limit how.old }
 {
     each_state_stands();

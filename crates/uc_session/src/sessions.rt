@@ -5,7 +5,7 @@ ghost use Rattle.uc_topology.specs.Stated.{group_count};
 ghost use Rattle.patch_pool.specs.Pool.{patches_of, blocks_in};
 ghost use Rattle.early_load.specs.Caches.{first_block, HoldsJustCached};
 ghost use Rattle.session_steps.specs.State.{opening_state, machine_of};
-ghost use Rattle.session_steps.specs.Played.{IsPlayed};
+ghost use Rattle.session_steps.specs.Played.{IsPlayed, SinkCause};
 ghost use Rattle.uc_session.specs.Playing.{BeatsInRange};
 ghost use Rattle.file_reads.specs.Reads.{AreHeld};
 ghost use Rattle.session_laws.specs.Standing.{Standing, InRange};
@@ -116,6 +116,7 @@ impl Session {
         ensures still { F.tells files.old → F.tells files.new }
         ensures later { F.faults files.old ≤ F.faults files.new }
         ensures sink_later { S.faults out.old ≤ S.faults out.new }
+        ensures sink_cause { SinkCause result (S.faults out.old) (S.faults out.new) }
         ensures most_stays { R.limit how.new ≡ R.limit how.old }
     {
         let _topology = self.parts.topology();

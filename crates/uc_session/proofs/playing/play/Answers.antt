@@ -4,7 +4,7 @@ use Rattle.uc_io.specs.declared.sinks.SinkFailed.{SinkFailed}
 use Rattle.file_reads.specs.Reads.{Read}
 use Rattle.script_text.specs.declared.command.Command.{Command}
 use Rattle.script_text.specs.declared.command.Command.TheVariants.{Boot, Load}
-use Rattle.session_steps.specs.Played.{FileCause}
+use Rattle.session_steps.specs.Played.{FileCause, SinkCause}
 use Rattle.session_parts.specs.Parts.{setting_of, state_of}
 use Rattle.uc_session.specs.Playing.{Does}
 use Rattle.uc_session.proofs.Told.{acted_does, does_play, nothing_played}
@@ -43,6 +43,20 @@ returns-in-Load-clause-played g c =
     ∙ sym c.in-Load.is)
     c.play_load.ensures.does)
 
+pub returns-in-Err-clause-sink_cause : goal.returns-in-Err-clause-sink_cause
+returns-in-Err-clause-sink_cause g c = c.in-Err.ensures.outcome.1
+
+-- what was shown and told comes behind the heading, which was written
+pub returns-in-Boot-clause-sink_cause : goal.returns-in-Boot-clause-sink_cause
+returns-in-Boot-clause-sink_cause g c =
+    subst (λ (before : ℕ). SinkCause c.play_boot.result before (g.S.Sink.faults c.play_boot.new.out)) c.in-Ok.ensures.still
+    c.play_boot.ensures.does.rest.cause
+
+pub returns-in-Load-clause-sink_cause : goal.returns-in-Load-clause-sink_cause
+returns-in-Load-clause-sink_cause g c =
+    subst (λ (before : ℕ). SinkCause c.play_load.result before (g.S.Sink.faults c.play_load.new.out)) c.in-Ok.ensures.still
+    c.play_load.ensures.does.rest.cause
+
 pub returns-in_default : goal.returns-in_default
 returns-in_default g c =
     let does =
@@ -68,5 +82,8 @@ returns-in_default g c =
       still = λ told. told;
       later = omega arith;
       sink_later = omega (arith, c.in-Ok.ensures.later, does.rest.later);
+      sink_cause =
+          subst (λ (before : ℕ). SinkCause c.tell.result before (g.S.Sink.faults c.tell.new.out)) c.in-Ok.ensures.still
+          does.rest.cause;
       most_stays = refl;
     }

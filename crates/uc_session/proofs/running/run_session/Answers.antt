@@ -1,14 +1,17 @@
-use Rattle.std.proofs.Common.{◌≡◌, true, [], refl, sym, ap, ◌∙◌, subst, arith}
+use Rattle.std.proofs.Common.{◌≡◌, ℕ, true, [], refl, sym, ap, ◌∙◌, subst, arith}
 use Rattle.std.proofs.lemmas.List.Sums.{AllPass-from_list_all}
+use Rattle.uc_io.specs.Faults.{Rose}
 use Rattle.script_text.specs.Within.{fits_command}
 use Rattle.session_steps.specs.State.{Setting, State, opening_state}
+use Rattle.session_text.specs.declared.answers.SessionAnswer.{SessionAnswer}
 use Rattle.session_steps.specs.Session.{short_unless}
+use Rattle.session_steps.specs.Whole.{SinkCauseAt}
 use Rattle.session_laws.specs.Standing.{InRange}
 use Rattle.session_runs.specs.SoFar.{PlayedSoFar}
 use Rattle.session_runs.proofs.Within.{limits_of, all_in_range}
 use Rattle.session_runs.proofs.Played.{before_the_first, nothing_played}
 use Rattle.uc_session.specs.Sessions.{setting_of, state_of}
-use Rattle.uc_session.proofs.InTurn.{setting_is, opening_is, at_place, range_now, beats_now, rose_late, one_more_at, last_at, cut_at, all_at}
+use Rattle.uc_session.proofs.InTurn.{setting_is, opening_is, at_place, range_now, beats_now, rose_late, one_more_at, last_at, cut_at, all_at, still_at}
 use Rattle.uc_session.proofs.running.run_session.Goals as goal
 
 -- no command was begun
@@ -46,7 +49,7 @@ loop-place-init g c =
       same = refl;
       still = λ tell. tell;
       later = omega arith;
-      sink_later = omega arith;
+      sink_still = refl;
       most_stays = refl;
     }
 
@@ -82,6 +85,19 @@ returns-in-Some-clause-played g c =
     (g.F.Files.holds c.loop-place.files) c.loop-place.invariant.still c.loop-place.invariant.same _ _ _ _ _
     c.in-Answered.ensures.played c.in-Some.end c.in-Some.ensures.0 c.in-Some.ensures.1
 
+pub returns-in-Some-clause-sink_cause : goal.returns-in-Some-clause-sink_cause
+returns-in-Some-clause-sink_cause g c =
+    subst
+    (λ (end : SessionAnswer). SinkCauseAt end (g.S.Sink.faults c.args.out.now) (g.S.Sink.faults c.run.new.out))
+    (sym c.in-Some.ensures.1)
+    (still_at c.in-Answered.answer (g.S.Sink.faults c.args.out.now) (g.S.Sink.faults c.run.new.out)
+    (c.in-Answered.ensures.sink_cause ∙ c.loop-place.invariant.sink_still))
+
+pub returns-in-WriteFault-clause-sink_cause : goal.returns-in-WriteFault-clause-sink_cause
+returns-in-WriteFault-clause-sink_cause g c =
+    subst (λ (before : ℕ). Rose before (g.S.Sink.faults c.run.new.out)) c.loop-place.invariant.sink_still
+    c.in-WriteFault.ensures.sink_cause
+
 pub returns-in-WriteFault-clause-played : goal.returns-in-WriteFault-clause-played
 returns-in-WriteFault-clause-played g c =
     let setting : Setting =
@@ -97,7 +113,7 @@ returns-in-WriteFault-clause-played g c =
           c.threads-threads.ensures.partition (all_in_range setting c.args.script.now.commands c.requires.within.each)
           cut.did cut.front _ _ cut.starts,
       rose_late (g.S.Sink.faults c.args.out.now) (g.S.Sink.faults c.loop-place.out) (g.S.Sink.faults c.run.new.out)
-          c.loop-place.invariant.sink_later c.in-WriteFault.ensures.sink_later cut.rose,
+          (omega (arith, c.loop-place.invariant.sink_still)) c.in-WriteFault.ensures.sink_later cut.rose,
     )
 
 pub returns-in-NoMemory-clause-played : goal.returns-in-NoMemory-clause-played
@@ -134,7 +150,7 @@ loop-place-preserved g c =
       same = c.in-Answered.ensures.same ∙ c.loop-place.invariant.same;
       still = λ tell. c.in-Answered.ensures.still (c.loop-place.invariant.still tell);
       later = omega (arith, c.loop-place.invariant.later, c.in-Answered.ensures.later);
-      sink_later = omega (arith, c.loop-place.invariant.sink_later, c.in-Answered.ensures.sink_later);
+      sink_still = c.in-Answered.ensures.sink_cause ∙ c.loop-place.invariant.sink_still;
       most_stays = c.in-Answered.ensures.most_stays ∙ c.loop-place.invariant.most_stays;
     }
 

@@ -15,6 +15,6 @@ invariant-loop-place g l = record {
   same : g.F.Files.holds l.files ≡ g.F.Files.holds l.fn.files;
   still : g.F.Pieces.tells l.fn.files → g.F.Pieces.tells l.files;
   later : g.F.Pieces.faults l.fn.files ≤ g.F.Pieces.faults l.files;
-  sink_later : g.S.Sink.faults l.fn.out ≤ g.S.Sink.faults l.out;
+  sink_still : g.S.Sink.faults l.out ≡ g.S.Sink.faults l.fn.out;
   most_stays : g.R.Rendezvous.limit l.how ≡ g.R.Rendezvous.limit l.fn.how;
 }

@@ -1,4 +1,4 @@
-use Rattle.std.proofs.Common.{◌≡◌, ℕ, ◌-◌, List, ◌++◌, [], ◌∷◌, length, take, sym, ◌∙◌, ap, subst, arith, append_assoc, take-append-drop}
+use Rattle.std.proofs.Common.{◌≡◌, ℕ, ◌-◌, List, ◌++◌, [], ◌∷◌, length, take, refl, sym, ◌∙◌, ap, subst, arith, append_assoc, take-append-drop}
 use Rattle.uc_gen.specs.Tally.{Tallies}
 use Rattle.uc_gen.proofs.Lists.{further, append_four}
 use Rattle.uc_gen.proofs.Lines.{none_before, none_at_all, first_ends}
@@ -34,6 +34,7 @@ returns c =
     let whole : take n piece ++ rest ≡ piece = ap (λ (l : List ℕ). take n piece ++ l) c.lines.invariant.rest ∙ take-append-drop n piece in
     record {
       later = omega arith;
+      still = refl;
       outcome = record {
         each = λ taken old.
             subst (Tallies c.take_part-2.new.self) (append_assoc taken (take n piece) rest ∙ ap (λ (l : List ℕ). taken ++ l) whole)

@@ -7,6 +7,7 @@ pub returns-then-begins_to_fail-clause-writes : goal.returns-then-begins_to_fail
 returns-then-begins_to_fail-clause-writes c =
     record {
       later = grind arith;
+      still = tt;
       outcome = (
         record {
           front = [];
@@ -25,6 +26,7 @@ returns-then-fitting-piece-clause-writes c =
     let took : c.extend_from_slice.new.self.items ≡ c.args.self.now.taken.items ++ front = grind (arith, common_steps) in
     record {
       later = grind arith;
+      still = tt;
       outcome = (
         record {
           front = front;

@@ -1,7 +1,7 @@
 -- A read that a signal interrupted took nothing.
 use Rattle.std.proofs.Common.{◌≡◌, length}
 use Rattle.std.specs.Io.KnownBytes.{Keeps}
-use Rattle.uc_io.proofs.host_files.read_some.Given as goal
+use Rattle.uc_io.proofs.reads.read_some.Given as goal
 
 abbrev pub invariant-loop : goal.invariant-loop
 invariant-loop g l = (length l.piece ≡ length l.initial.piece) × Keeps (g.F.Read.remaining l.initial.file) (g.F.Read.remaining l.file)
