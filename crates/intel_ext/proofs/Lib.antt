@@ -1,2 +1,4 @@
 mod Entries
+mod Fronts
 mod Pairs
+pub mod Sums

@@ -1,2 +1,5 @@
-mod Fronts
-mod Walk
+mod Steps
+mod Verdicts
+mod Pieces
+mod Standing
+pub mod Walks

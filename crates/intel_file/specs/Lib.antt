@@ -1,2 +1,5 @@
-pub mod Front
+pub mod Progress
 pub mod Reading
+pub mod Stage
+pub mod Stream
+pub mod Walk

@@ -1,10 +1,10 @@
-ghost use Rattle.std.specs.Prelude.{◌≡◌, ◌≤◌, length};
+ghost use Rattle.std.specs.Prelude.{◌≤◌, length};
 ghost use Rattle.intel_file.specs.Reading.{IsFileRead};
 
-use crate::front::read_front;
+use crate::stream::IntelStream;
 use intel_format::IntelHeader;
 use std::alloc::Global;
-use uc_bytes::{FileAnswer, FileFault};
+use uc_bytes::FileAnswer;
 
 /// An update of a file.
 #[derive(Clone, Copy, Debug, PartialEq, Eq)]
@@ -24,25 +24,9 @@ pub fn read_intel(alloc: Global, bytes: &[u8]) -> Result<Vec<IntelUpdate>, FileA
     requires { length bytes.now ≤ 67108864 }
     ensures { IsFileRead bytes.now result }
 {
-    let mut updates = Vec::new(alloc);
-    let mut at = 0;
-    'walk: while at < bytes.len() {
-        let front = match read_front(&bytes[at..], updates.len()) {
-            Ok(front) => front,
-            Err(cause) => {
-                return Err(FileAnswer::Fault(FileFault {
-                    offset: at as u64,
-                    cause,
-                }));
-            }
-        };
-        updates.push(IntelUpdate {
-            start: at as u64,
-            len: u64::from(front.len),
-            header: front.header,
-            pairs: front.pairs,
-        })?;
-        at += front.len as usize;
+    let mut stream = IntelStream::new(alloc);
+    match stream.feed(bytes) {
+        Ok(()) => stream.finish(),
+        Err(answer) => Err(answer),
     }
-    Ok(updates)
 }
