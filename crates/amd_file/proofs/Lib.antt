@@ -1,3 +1,8 @@
-mod Listed
-mod Sections
-mod Walks
+mod Coming
+mod Ending
+mod Listings
+mod Rows
+mod Steps
+mod Streams
+mod Taking
+mod Units

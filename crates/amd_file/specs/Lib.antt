@@ -1,4 +1,9 @@
-pub mod Piece
+pub mod Listing
+pub mod Listings
+pub mod Parser
+pub mod Parsing
+pub mod Patches
 pub mod Reading
-pub mod Section
-pub mod Walk
+pub mod Stage
+pub mod Step
+pub mod Stream

@@ -2,20 +2,20 @@ ghost use Rattle.std.specs.Prelude.{◌≤◌, length};
 ghost use Rattle.amd_file.specs.Reading.{IsFileRead};
 
 use crate::container::AmdContainer;
-use crate::walk::Walk;
+use crate::stream::AmdStream;
 use std::alloc::Global;
 use uc_bytes::FileAnswer;
 
-/// The containers of a file, or the first fault: where the container begins whose head or table fails a check, or the
-/// section that fails one, and the first check that it fails. The file has at most 67,108,864 bytes. Linux 6.7,
-/// `arch/x86/kernel/cpu/microcode/amd.c`, load_microcode_amd.
+/// The containers of a file that have a patch, or the first fault: where the container begins whose head or table
+/// fails a check, or the section that fails one, and the first check that it fails. The file has at most 67,108,864
+/// bytes. Linux 6.7, `arch/x86/kernel/cpu/microcode/amd.c`, load_microcode_amd.
 pub fn read_amd(alloc: Global, bytes: &[u8]) -> Result<Vec<AmdContainer>, FileAnswer>
     requires { length bytes.now ≤ 67108864 }
     ensures { IsFileRead bytes.now result }
 {
-    let mut walk = Walk::new(alloc);
-    'walk: while walk.containers.is_empty() || walk.at < bytes.len() {
-        walk.step(alloc, bytes)?;
+    let mut stream = AmdStream::new(alloc);
+    match stream.feed(bytes) {
+        Ok(()) => stream.finish(),
+        Err(answer) => Err(answer),
     }
-    Ok(walk.containers)
 }

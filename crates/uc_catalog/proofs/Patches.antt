@@ -12,7 +12,8 @@ use Rattle.amd_format.specs.File.{FileContainer, AreSections, joined_sections, I
 use Rattle.amd_format.proofs.Passes.{table_length}
 use Rattle.amd_file.specs.declared.container.AmdContainer.{AmdContainer}
 use Rattle.amd_file.specs.declared.container.AmdPatch.{AmdPatch}
-use Rattle.amd_file.specs.Reading.{listed_patches, listed}
+use Rattle.amd_file.specs.Patches.{patches_at}
+use Rattle.amd_file.specs.Reading.{listed_with, listed}
 use Rattle.file_entries.specs.Reading.{IsAmd, OfAmd}
 use Rattle.file_entries.specs.Entry.{Entry, patch_entry, entries_of_sections, entries_of_containers}
 use Rattle.uc_catalog.specs.declared.place.Place.{Place}
@@ -68,28 +69,40 @@ module _ (number : ℕ) (file front equiv rest : List ℕ) (begin : ℕ) (split 
 
   -- the places of the container's patches
   sections_placed : (before : List ℕ) (sections : List (List ℕ)) (more : List ℕ) (at : ℕ) → file ≡ before ++ (joined_sections sections ++ more) → length before ≡ at → AreSections sections
-      → All (λ (p : AmdPatch). IsPatchPlace file (place_of_patch number begin p)) (listed_patches at sections)
+      → All (λ (p : AmdPatch). IsPatchPlace file (place_of_patch number begin p)) (patches_at at sections)
   sections_placed before [] more at parts stands each = All-nil (λ (p : AmdPatch). IsPatchPlace file (place_of_patch number begin p))
   sections_placed before (s ∷ ss) more at parts stands each =
       let split_here : file ≡ before ++ (s ++ (joined_sections ss ++ more)) = parts ∙ ap (λ (l : List ℕ). before ++ l) (append_assoc s (joined_sections ss) more) in
       let next : file ≡ (before ++ s) ++ (joined_sections ss ++ more) = split_here ∙ sym (append_assoc before s (joined_sections ss ++ more)) in
-      All-cons (λ (p : AmdPatch). IsPatchPlace file (place_of_patch number begin p)) (as_patch at s) (listed_patches (at + length s) ss)
+      All-cons (λ (p : AmdPatch). IsPatchPlace file (place_of_patch number begin p)) (as_patch at s) (patches_at (at + length s) ss)
       (patch_placed before s (joined_sections ss ++ more) at split_here stands each.0)
       (sections_placed (before ++ s) ss more (at + length s) next (omega (arith, stands, length-append before s)) each.1)
 
   -- stand for their entries
   sections_entered : (before : List ℕ) (sections : List (List ℕ)) (more : List ℕ) (at : ℕ) → file ≡ before ++ (joined_sections sections ++ more) → length before ≡ at → AreSections sections
-      → map (entry_by true file) (map (place_of_patch number begin) (listed_patches at sections)) ≡ entries_of_sections number at (rows_of equiv) sections
+      → map (entry_by true file) (map (place_of_patch number begin) (patches_at at sections)) ≡ entries_of_sections number at (rows_of equiv) sections
   sections_entered before [] more at parts stands each = refl
   sections_entered before (s ∷ ss) more at parts stands each =
       let split_here : file ≡ before ++ (s ++ (joined_sections ss ++ more)) = parts ∙ ap (λ (l : List ℕ). before ++ l) (append_assoc s (joined_sections ss) more) in
       let next : file ≡ (before ++ s) ++ (joined_sections ss ++ more) = split_here ∙ sym (append_assoc before s (joined_sections ss ++ more)) in
-      ap (λ (e : Entry). e ∷ map (entry_by true file) (map (place_of_patch number begin) (listed_patches (at + length s) ss))) (patch_entered before s (joined_sections ss ++ more) at split_here stands each.0)
+      ap (λ (e : Entry). e ∷ map (entry_by true file) (map (place_of_patch number begin) (patches_at (at + length s) ss))) (patch_entered before s (joined_sections ss ++ more) at split_here stands each.0)
       ∙ ap (λ (es : List Entry). patch_entry number (at + 8) (rows_of equiv) (patch_of s) ∷ es) (sections_entered (before ++ s) ss more (at + length s) next (omega (arith, stands, length-append before s)) each.1)
+
+-- what holds of a container holds of it as it is listed, or it is not listed
+listed_one : (P : AmdContainer → Type 0) (start table_len : ℕ) (patches : List AmdPatch) → P (record { start = start; table_len = table_len; patches = patches }) → All P (listed_with start table_len patches)
+listed_one P start table_len [] holds = All-nil P
+listed_one P start table_len (patch ∷ patches) holds =
+    All-cons P (record { start = start; table_len = table_len; patches = patch ∷ patches }) [] holds (All-nil P)
+
+-- either way its patches' places are the first
+flat_one : (number start table_len : ℕ) (patches : List AmdPatch) (others : List AmdContainer)
+    → flat_map (places_of_container number) (listed_with start table_len patches ++ others) ≡ map (place_of_patch number start) patches ++ flat_map (places_of_container number) others
+flat_one number start table_len [] others = refl
+flat_one number start table_len (patch ∷ patches) others = refl
 
 -- a container as the reader lists it
 abbrev pub as_container : ℕ → FileContainer → AmdContainer
-as_container start c = record { start = start; table_len = length (drop 12 c.equiv); patches = listed_patches (start + length c.equiv) c.sections }
+as_container start c = record { start = start; table_len = length (drop 12 c.equiv); patches = patches_at (start + length c.equiv) c.sections }
 
 module _ (number : ℕ) (file : List ℕ) where
   -- where a container's parts and the next one stand
@@ -127,8 +140,9 @@ module _ (number : ℕ) (file : List ℕ) where
   pub containers_placed : (front : List ℕ) (cs : List FileContainer) (start : ℕ) → file ≡ front ++ joined cs → length front ≡ start → AreContainers cs → All IsAt (listed start cs)
   containers_placed front [] start split place each = All-nil IsAt
   containers_placed front (c ∷ cs) start split place each =
-      All-cons IsAt (as_container start c) (listed (start + length (container_bytes c)) cs)
-      (record { start = omega (arith, place, ap length split, length-append front (joined (c ∷ cs))); patches = container_placed front c cs start split place each.0 })
+      All-append IsAt (listed_with start (length (drop 12 c.equiv)) (as_container start c).patches) (listed (start + length (container_bytes c)) cs)
+      (listed_one IsAt start (length (drop 12 c.equiv)) (as_container start c).patches
+      (record { start = omega (arith, place, ap length split, length-append front (joined (c ∷ cs))); patches = container_placed front c cs start split place each.0 }))
       (containers_placed (front ++ container_bytes c) cs (start + length (container_bytes c)) (next_split front c cs start split place) (omega (arith, place, length-append front (container_bytes c))) each.1)
 
   -- and all places stand for the file's entries
@@ -137,7 +151,9 @@ module _ (number : ℕ) (file : List ℕ) where
   containers_entered front [] start split place each = refl
   containers_entered front (c ∷ cs) start split place each =
       let rest = flat_map (places_of_container number) (listed (start + length (container_bytes c)) cs) in
-      map-append (entry_by true file) (places_of_container number (as_container start c)) rest
+      ap (λ (places : List Place). map (entry_by true file) places)
+      (flat_one number start (length (drop 12 c.equiv)) (as_container start c).patches (listed (start + length (container_bytes c)) cs))
+      ∙ map-append (entry_by true file) (places_of_container number (as_container start c)) rest
       ∙ ap (λ (es : List Entry). es ++ map (entry_by true file) rest) (container_entered front c cs start split place each.0)
       ∙ ap (λ (es : List Entry). entries_of_sections number (start + length c.equiv) (rows_of c.equiv) c.sections ++ es)
       (containers_entered (front ++ container_bytes c) cs (start + length (container_bytes c)) (next_split front c cs start split place) (omega (arith, place, length-append front (container_bytes c))) each.1)
