@@ -78,8 +78,8 @@ abbrev pub are_names : ℕ → List (List ℕ) → Bool
 are_names least words = (nat_le least (length words) && nat_le (length words) 16) && list_all is_utf8 words
 
 -- a last part of a form that stands for all words that are left
-abbrev pub is_last : List ℕ → Bool
-is_last part = bytes_eq part (codes "NAME..") || bytes_eq part (codes "[NAME..]") || bytes_eq part (codes "BEAT..")
+abbrev pub takes_the_rest : List ℕ → Bool
+takes_the_rest part = bytes_eq part (codes "NAME..") || bytes_eq part (codes "[NAME..]") || bytes_eq part (codes "BEAT..")
 
 abbrev pub have_last : List ℕ → List (List ℕ) → Bool
 have_last part words =
@@ -95,7 +95,7 @@ have_next part (word ∷ words) = is_number part || bytes_eq word part
 abbrev pub have_form : List (List ℕ) → List (List ℕ) → Bool
 have_form [] words = length words == 0
 have_form (part ∷ parts) words =
-    if is_last part then have_last part words else have_next part words && have_form parts (drop 1 words)
+    if takes_the_rest part then have_last part words else have_next part words && have_form parts (drop 1 words)
 
 -- a line's words have the form that is written so
 abbrev pub has_form : List (List ℕ) → Form → Bool

@@ -1,4 +1,5 @@
 mod Lines
 mod Read
 mod Scheduled
+mod ShortWords
 mod Words

@@ -52,3 +52,9 @@ IsScheduled limits words old new events (Ok _) =
     (schedule_fault limits old words ≡ None) × (new ≡ old ++ beats_of words) × Counted limits new events
 IsScheduled limits words old new events (Err (Cause cause)) = schedule_fault limits old words ≡ Some cause
 IsScheduled limits words old new events (Err NoMemory) = Unit {0}
+
+-- what a schedule's words state after these beats, and the first check that fails at them, is what the words that are
+-- left state after those, and what fails at them
+abbrev pub LeavesSchedule : Limits → List (List ℕ) → List Beat → List (List ℕ) → List Beat → Type 0
+LeavesSchedule limits words old left beats =
+    (schedule_fault limits old words ≡ schedule_fault limits beats left) × (old ++ beats_of words ≡ beats ++ beats_of left)

@@ -1,13 +1,15 @@
 //! The schedules of loads.
-ghost use Rattle.std.specs.Prelude.{◌≡◌, drop, slice_index};
+ghost use Rattle.std.specs.Prelude.{◌≡◌, drop, slice_index, IfOk, OnOk};
 ghost use Rattle.uc_text.specs.Lines.{words_of};
 ghost use Rattle.script_text.specs.Forms.{is_beat};
 ghost use Rattle.script_text.specs.Within.{fits_beat, events_of_beat, thread_of};
-ghost use Rattle.uc_script.specs.Schedules.{IsBeatOf, IsNextBeat, IsScheduled, Counted};
+ghost use Rattle.uc_script.specs.Schedules.{IsBeatOf, IsNextBeat, IsScheduled, LeavesSchedule, Counted};
 
 use crate::answer::LineAnswer;
+use crate::shorts::first_short;
 use rendezvous_steps::{Beat, Event};
 use script_text::{BeatKind, Beats, Limits, ScriptCause};
+use uc_bytes::NoMemory;
 use uc_text::{Words, number};
 
 /// The events that one load may have.
@@ -15,6 +17,47 @@ const MOST_EVENTS: u64 = 4_194_304;
 
 /// Puts the beats of a line behind those of its load, whose events are counted.
 pub fn add_beats(
+    limits: Limits,
+    line: &[u8],
+    beats: &mut Beats,
+    events: &mut u64,
+) -> Result<(), LineAnswer>
+    requires { Counted limits beats.old events.old }
+    ensures { IsScheduled limits (words_of line.now) beats.old beats.new events.new result }
+{
+    let rest = add_short_beats(limits, line, beats, events)?;
+    if rest.is_empty() && *events <= MOST_EVENTS {
+        return Ok(());
+    }
+    add_other_beats(limits, rest, beats, events)
+}
+
+/// Puts the beats of short words at the front of a line behind those of its load, up to a word that is not short or that
+/// a check fails at, and returns what is left of the line. Most lines of a schedule have short words alone.
+fn add_short_beats<'a>(
+    limits: Limits,
+    line: &'a [u8],
+    beats: &mut Beats,
+    events: &mut u64,
+) -> Result<&'a [u8], NoMemory>
+    requires { Counted limits beats.old events.old }
+    ensures leaves { IfOk result (λ rest. LeavesSchedule limits (words_of line.now) beats.old (words_of rest.now) beats.new) }
+    ensures counted { OnOk result (Counted limits beats.new events.new) }
+{
+    let mut rest = line;
+    while let Some(word) = first_short(rest) {
+        let Ok(beat) = read_beat(limits, word.mark, Some(u64::from(word.number))) else {
+            return Ok(rest);
+        };
+        *events = events.saturating_add(events_of(limits, beat));
+        beats.push(beat)?;
+        rest = word.rest;
+    }
+    Ok(rest)
+}
+
+/// Puts the beats of any words behind those of their load.
+fn add_other_beats(
     limits: Limits,
     line: &[u8],
     beats: &mut Beats,
@@ -61,6 +104,7 @@ fn next_beat(limits: Limits, words: &mut Words) -> Option<Result<Beat, ScriptCau
 }
 
 /// The beat of a word by its first byte and the number that the rest spells, where it does; or the first check that fails.
+#[inline(always)]
 fn read_beat(limits: Limits, first: u8, number: Option<u64>) -> Result<Beat, ScriptCause>
     ensures { IsBeatOf limits first number result }
 {

@@ -1,12 +1,13 @@
 //! Whether lines have the forms of their place.
-ghost use Rattle.std.specs.Prelude.{◌≡◌, ◌≤◌};
+ghost use Rattle.std.specs.Prelude.{◌≡◌, ◌≤◌, false, IsTrue};
 ghost use Rattle.std.specs.List.{list_all};
 ghost use Rattle.std.specs.Str.{is_utf8};
 ghost use Rattle.uc_text.specs.Lines.{words_of};
-ghost use Rattle.script_text.specs.Forms.{is_beat, is_number, are_names, is_last, have_last, have_form, has_form, form_of};
+ghost use Rattle.script_text.specs.Forms.{is_beat, is_number, are_names, takes_the_rest, have_last, have_form, has_form, form_of};
 ghost use Rattle.script_text.specs.declared.forms.Form.TheVariants.{End};
 
 use crate::beats::is_beat;
+use crate::shorts::is_blank;
 use script_text::{Form, Place};
 use uc_text::Words;
 
@@ -29,7 +30,7 @@ fn has_form(form: &[u8], line: &[u8]) -> bool
 {
     let mut words = Words::new(line);
     for part in Words::new(form) {
-        if is_last(part) {
+        if takes_the_rest(part) {
             return have_last(part, words);
         }
         let Some(word) = words.next() else {
@@ -47,6 +48,9 @@ fn has_form(form: &[u8], line: &[u8]) -> bool
 pub fn is_end(line: &[u8]) -> bool
     ensures { result ≡ has_form (words_of line.now) End }
 {
+    if begins_otherwise(line) {
+        return false;
+    }
     let mut words = Words::new(line);
     let Some(word) = words.next() else {
         return false;
@@ -55,6 +59,17 @@ pub fn is_end(line: &[u8]) -> bool
         return false;
     }
     words.next().is_none()
+}
+
+/// Whether a line begins with a word of another first byte than that of `end`.
+#[inline(always)]
+fn begins_otherwise(line: &[u8]) -> bool
+    ensures { IsTrue result → has_form (words_of line.now) End ≡ false }
+{
+    match line {
+        [first, ..] => *first != b'e' && !is_blank(*first),
+        [] => false,
+    }
 }
 
 /// Whether all words that are left stand for the last part of a form.
@@ -70,8 +85,8 @@ fn have_last(part: &[u8], words: Words) -> bool
     }
 }
 
-fn is_last(part: &[u8]) -> bool
-    ensures { result ≡ is_last part.now }
+fn takes_the_rest(part: &[u8]) -> bool
+    ensures { result ≡ takes_the_rest part.now }
 {
     part == b"NAME..".as_slice() || part == b"[NAME..]".as_slice() || part == b"BEAT..".as_slice()
 }
