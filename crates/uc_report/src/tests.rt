@@ -298,3 +298,75 @@ fn each_error_has_its_line(rt: HostRuntime) -> Result<(), Fail> {
     assert_eq!(rt; out.bytes(), ERRORS.as_bytes());
     Ok(())
 }
+
+/// Each cause of a file and its text.
+const CAUSES: [(FileCause, &str); 25] = [
+    (FileCause::Short, "short"),
+    (FileCause::SizeUnaligned, "size-unaligned"),
+    (FileCause::TotalSmall, "total-small"),
+    (FileCause::DataPastTotal, "data-past-total"),
+    (FileCause::Version, "version"),
+    (FileCause::Truncated, "truncated"),
+    (FileCause::ExtCut, "ext-cut"),
+    (FileCause::ExtCount, "ext-count"),
+    (FileCause::ExtSum, "ext-sum"),
+    (FileCause::EntrySum(0), "entry-sum 0"),
+    (FileCause::EntrySum(4_294_967_295), "entry-sum 4294967295"),
+    (FileCause::Sum, "sum"),
+    (FileCause::EquivShort, "equiv-short"),
+    (FileCause::Magic, "magic"),
+    (FileCause::EquivType, "equiv-type"),
+    (FileCause::TableSmall, "table-small"),
+    (FileCause::TableCut, "table-cut"),
+    (FileCause::SectionShort, "section-short"),
+    (FileCause::SectionType, "section-type"),
+    (FileCause::PatchSmall, "patch-small"),
+    (FileCause::PatchCut, "patch-cut"),
+    (FileCause::FamilySize, "family-size"),
+    (FileCause::Chipset, "chipset"),
+    (FileCause::TooMany, "too-many"),
+    (FileCause::TooLong, "too-long"),
+];
+
+/// Each cause of a topology, at a line of its own.
+const TOPOLOGY_CAUSES: [(u32, TopoCause); 10] = [
+    (1, TopoCause::Head),
+    (2, TopoCause::Word),
+    (3, TopoCause::Number),
+    (4, TopoCause::Order),
+    (5, TopoCause::NoCore),
+    (6, TopoCause::TooMany),
+    (7, TopoCause::EmptyCore),
+    (0, TopoCause::TooLong),
+    (0, TopoCause::LiveLimit),
+    (4_294_967_295, TopoCause::Disagree),
+];
+
+const TOPOLOGY_ERRORS: &str = "error topology line 1 head
+error topology line 2 word
+error topology line 3 number
+error topology line 4 order
+error topology line 5 no-core
+error topology line 6 too-many
+error topology line 7 empty-core
+error topology line 0 too-long
+error topology line 0 live-limit
+error topology line 4294967295 disagree
+";
+
+#[test]
+fn each_cause_has_its_text(rt: HostRuntime) -> Result<(), Fail> {
+    for (cause, text) in &CAUSES {
+        assert_eq!(rt; errors::cause_text(*cause).as_slice(), text.as_bytes());
+    }
+    let mut out = MemSink::new(rt.alloc(), ROOM)?;
+    for (line, cause) in &TOPOLOGY_CAUSES {
+        let fault = TopoFault {
+            line: *line,
+            cause: *cause,
+        };
+        assert!(rt; put_topology_fault(&mut out, fault).is_ok());
+    }
+    assert_eq!(rt; out.bytes(), TOPOLOGY_ERRORS.as_bytes());
+    Ok(())
+}

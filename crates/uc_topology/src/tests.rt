@@ -136,6 +136,96 @@ fn each_cause_comes_at_its_line(rt: HostRuntime) -> Result<(), Fail> {
 }
 
 #[test]
+fn each_bound_holds_and_the_next_number_is_past_it(rt: HostRuntime) -> Result<(), Fail> {
+    let faults: [(&[u8], u32, TopoCause); 16] = [
+        (
+            b"ucode-topology 1\nvendor intel\ncore 0 sig 0xffffffff flags 0xffffffff rev 0xffffffff\n",
+            0,
+            TopoCause::EmptyCore,
+        ),
+        (
+            b"ucode-topology 1\nvendor intel\ncore 0 sig 0x100000000 flags 0 rev 0\n",
+            3,
+            TopoCause::Number,
+        ),
+        (
+            b"ucode-topology 1\nvendor intel\ncore 0 sig 0 flags 4294967296 rev 0\n",
+            3,
+            TopoCause::Number,
+        ),
+        (
+            b"ucode-topology 1\nvendor intel\ncore 65535 sig 0 flags 0 rev 0\n",
+            3,
+            TopoCause::Order,
+        ),
+        (
+            b"ucode-topology 1\nvendor intel\ncore 0 sig 0 flags 0 rev 0\ncpu 65535 core 0\n",
+            4,
+            TopoCause::Order,
+        ),
+        (
+            b"ucode-topology 1\nvendor intel\ncore 0 sig 0 flags 0 rev 0\ncpu 65536 core 0\n",
+            4,
+            TopoCause::Number,
+        ),
+        (
+            b"ucode-topology 1\nvendor intel\ncore 0 sig 0 flags 0 rev 0\ncpu 0 core 65535\n",
+            4,
+            TopoCause::NoCore,
+        ),
+        (
+            b"ucode-topology 1\nvendor intel\ncore 0 sig 0 flags 0 rev 0\ncpu 0 core 65536\n",
+            4,
+            TopoCause::Number,
+        ),
+        (
+            b"ucode-topology 1\nvendor intel\ncore 65536 sig 0 flags 0 rev\n",
+            3,
+            TopoCause::Word,
+        ),
+        (
+            b"ucode-topology 1\nvendor intel\ncore 0 sig 0 flags 0 rev 0\ncore 1 sig 0 flags 0 rev 0\ncpu 0 core 1\n",
+            0,
+            TopoCause::EmptyCore,
+        ),
+        (
+            b"ucode-topology 2\nvendor intel\ncore 0 package 65535 sig 0 flags 0 rev 0\n",
+            3,
+            TopoCause::Order,
+        ),
+        (
+            b"ucode-topology 2\nvendor intel\ncore 0 package 65536 sig 0 flags 0 rev 0\n",
+            3,
+            TopoCause::Number,
+        ),
+        (
+            b"ucode-topology 2\nvendor intel\ncore 0 package 1 sig 0 flags 0 rev 0\n",
+            3,
+            TopoCause::Order,
+        ),
+        (
+            b"ucode-topology 2\nvendor intel\ncore 0 package 0 sig 1 flags 2 rev 3\ncore 1 package 1 sig 4 flags 5 rev 6\n",
+            0,
+            TopoCause::EmptyCore,
+        ),
+        (
+            b"ucode-topology 2\nvendor intel\ncore 0 package 0 sig 1 flags 2 rev 3\ncore 1 package 2 sig 1 flags 2 rev 3\n",
+            4,
+            TopoCause::Order,
+        ),
+        (
+            b"ucode-topology 2\nvendor intel\ncore 0 package 0 sig 1 flags 2 rev 3\ncore 2 package 0 sig 9 flags 2 rev 3\n",
+            4,
+            TopoCause::Order,
+        ),
+    ];
+    for (text, line, cause) in faults {
+        assert_eq!(rt; fault_of(text), Some(TopoFault { line, cause }));
+    }
+    Ok(())
+}
+
+#[test]
 fn cores_and_threads_are_at_most_256(rt: HostRuntime) -> Result<(), Fail> {
     let cores = with_lines(
         rt.alloc(),
