@@ -8,3 +8,4 @@ pub mod Stands
 pub mod Sessions
 mod Groups
 pub mod Plans
+mod Lent

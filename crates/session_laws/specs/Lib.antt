@@ -1,3 +1,4 @@
 pub mod Laws
 pub mod Standing
 pub mod Plans
+pub mod Lent

@@ -2,6 +2,7 @@
 #![tactic(auto)]
 
 ghost use Rattle.session_laws.specs.Laws.{RefusalsKeep, NeverFalls};
+ghost use Rattle.session_laws.specs.Lent.{BootsLend, LoadsLend};
 ghost use Rattle.session_laws.specs.Plans.{PlansSound};
 ghost use Rattle.session_laws.specs.Standing.{OpeningStands, StepsStand, SessionsStand};
 
@@ -31,4 +32,10 @@ pub fn each_state_stands()
 /// region sets out with a plan that a rendezvous may run with.
 pub fn each_plan_is_sound()
     ensures { PlansSound }
+{}
+
+/// Once the patches of all offers were put, each group that is offered an entry is lent a patch with the entry's bytes.
+pub fn each_offer_is_lent()
+    ensures boot { BootsLend }
+    ensures load { LoadsLend }
 {}

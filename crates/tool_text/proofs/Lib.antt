@@ -1,3 +1,11 @@
+pub mod Able
+pub mod Causes
 pub mod Complete
+pub mod Done
+pub mod Listings
+pub mod Loads
+pub mod Offering
+pub mod Sessions
 pub mod SomePlay
 pub mod SomeText
+pub mod Texts

@@ -226,7 +226,7 @@ module _ (sessions : SessionsExist) where
   module _ (topologies : (number : ℕ) → topology.States (topology_text number) (generated.machine_of number))
       (scripts : (number : ℕ) → States generated.limits_of (script_text number) (generated.script_of number)) where
     -- the script is for that machine
-    limits_are : (number : ℕ) → generated.limits_of ≡ limits_of (generated.machine_of number)
+    pub limits_are : (number : ℕ) → generated.limits_of ≡ limits_of (generated.machine_of number)
     unfolding generated.cores_of generated.threads_of
     limits_are number =
         let half : ℕ → ℕ = λ thread. thread / 2 in

@@ -24,9 +24,9 @@ use Rattle.report_text.specs.Offers.{facts_of_group, AreOffers, offers_text}
 use Rattle.top_call.specs.Written.{HasText}
 use Rattle.top_call.specs.declared.status.Status.{Status}
 use Rattle.top_call.specs.declared.status.Status.TheVariants.{Done, Usage, BadInput}
-use Rattle.tool_text.specs.Words.{Asked, Faulty, ListOf, ShowOf, SelectOf, PlayOf, asked}
+use Rattle.tool_text.specs.Words.{Asked, Faulty, ListOf, ShowOf, SelectOf, PlayOf, GenOf, asked}
 use Rattle.tool_text.specs.Commands.{entries_of_all, facts_at, ListText, ShowText, SelectText}
-use Rattle.tool_text.specs.Plays.{PlayText}
+use Rattle.tool_text.specs.Plays.{PlayText, GenText}
 use Rattle.tool_text.specs.Tool.{AskedText, ToolText, FromReads}
 
 -- each date has a text
@@ -248,20 +248,25 @@ select_text topology names holds = elim (cases_lt TOPOLOGY_LIMIT (length (holds 
 abbrev PlayHasText : Type 0
 PlayHasText = (topology script : List ℕ) (holds : List ℕ → List ℕ) → HasText (FromReads (Unit {0}) holds (PlayText topology script))
 
-asked_text : PlayHasText → (line : Asked) (holds : List ℕ → List ℕ) → HasText (FromReads (Unit {0}) holds (AskedText line))
-asked_text plays (Faulty i) holds = record {
+-- and one that is generated
+abbrev GenHasText : Type 0
+GenHasText = (number : ℕ) (holds : List ℕ → List ℕ) → HasText (FromReads (Unit {0}) holds (GenText number))
+
+asked_text : PlayHasText → GenHasText → (line : Asked) (holds : List ℕ → List ℕ) → HasText (FromReads (Unit {0}) holds (AskedText line))
+asked_text plays gens (Faulty i) holds = record {
   text = usage_line i;
   status = Usage i;
   is_text = record { reads = []; held = λ told. held_nil holds; is_text = (refl, refl, refl) };
   goes = tt;
 }
-asked_text plays (ListOf names) holds = list_text names holds
-asked_text plays (ShowOf name number) holds = show_text_of name number holds
-asked_text plays (SelectOf topology names) holds = select_text topology names holds
-asked_text plays (PlayOf topology script) holds = plays topology script holds
+asked_text plays gens (ListOf names) holds = list_text names holds
+asked_text plays gens (ShowOf name number) holds = show_text_of name number holds
+asked_text plays gens (SelectOf topology names) holds = select_text topology names holds
+asked_text plays gens (PlayOf topology script) holds = plays topology script holds
+asked_text plays gens (GenOf number) holds = gens number holds
 
-pub tool_text : PlayHasText → (words : List (List ℕ)) (holds : List ℕ → List ℕ) → HasText (FromReads (Unit {0}) holds (ToolText words))
-tool_text plays words holds = asked_text plays (asked words) holds
+pub tool_text : PlayHasText → GenHasText → (words : List (List ℕ)) (holds : List ℕ → List ℕ) → HasText (FromReads (Unit {0}) holds (ToolText words))
+tool_text plays gens words holds = asked_text plays gens (asked words) holds
 
 -- a text of reads that gave what is held is one whether the files tell or not
 pub whether_told : {tells : Type 0} (holds : List ℕ → List ℕ) (texts : List Read → Option ℕ → List ℕ → Status → Type 0) → HasText (FromReads (Unit {0}) holds texts) → HasText (FromReads tells holds texts)

@@ -1,15 +1,21 @@
 -- What the program writes, and when it comes to its end.
 use Rattle.std.specs.Prelude.{◌≡◌, ◌⊎◌, ℕ, ◌<◌, List, [], ◌∷◌, length, map, Option, None}
 use Rattle.top_call.specs.declared.status.Status.{Status}
-use Rattle.top_call.specs.declared.status.Status.TheVariants.{Usage, WriteFault}
+use Rattle.top_call.specs.declared.status.Status.TheVariants.{Done, Usage, ReadFault, WriteFault}
 use Rattle.uc_topology.specs.Stated.{Machine}
+use Rattle.uc_topology.specs.Texts as topology
+use Rattle.uc_gen.specs.Texts as generated
 use Rattle.file_entries.specs.Reading.{Reading}
 use Rattle.file_reads.specs.Accepts.{AreAccepted, IsMachine}
 use Rattle.file_reads.specs.Reads.{Read, AreHeld}
 use Rattle.report_text.specs.Lines.{usage_line}
-use Rattle.tool_text.specs.Words.{Asked, Faulty, ListOf, ShowOf, SelectOf, PlayOf, asked}
+use Rattle.script_report.specs.Accepts.{IsScript}
+use Rattle.script_text.specs.Stated.{Stated}
+use Rattle.script_text.specs.Texts.{States}
+use Rattle.tool_text.specs.Words.{Asked, Faulty, ListOf, ShowOf, SelectOf, PlayOf, GenOf, asked}
 use Rattle.tool_text.specs.Commands.{ListText, ShowText, SelectText, entries_of_all}
-use Rattle.tool_text.specs.Plays.{PlayText}
+use Rattle.tool_text.specs.Plays.{PlayText, GenText, limits_of, setting_of, bundle}
+use Rattle.tool_text.specs.Able.{CanBePlayed}
 
 -- the texts for what a command line asks for, by the reads that were made
 abbrev pub AskedText : Asked → List Read → Option ℕ → List ℕ → Status → Type 0
@@ -19,6 +25,7 @@ AskedText (ListOf names) reads files text status = ListText names reads files te
 AskedText (ShowOf name number) reads files text status = ShowText name number reads files text status
 AskedText (SelectOf topology names) reads files text status = SelectText topology names reads files text status
 AskedText (PlayOf topology script) reads files text status = PlayText topology script reads files text status
+AskedText (GenOf number) reads files text status = GenText number reads files text status
 
 -- the texts for the words of a command line
 abbrev pub ToolText : List (List ℕ) → List Read → Option ℕ → List ℕ → Status → Type 0
@@ -36,8 +43,8 @@ UsageCause (Faulty i) status = (status ≡ Usage i) ⊎ (status ≡ WriteFault)
 UsageCause line (Usage k) = ⊥
 UsageCause line status = Unit {0}
 
--- What is asked for can be done: every file has a reading within its limit, and a number is that of an entry. Nothing is said
--- so of a session.
+-- What is asked for can be done: every file has a reading within its limit, a number is that of an entry, and each command of a
+-- session finds what it needs.
 abbrev pub CanBeDone : Asked → (List ℕ → List ℕ) → Type 0
 CanBeDone (Faulty i) holds = ⊥
 CanBeDone (ListOf names) holds = (readings : List Reading) × AreAccepted (map holds names) readings
@@ -45,4 +52,18 @@ CanBeDone (ShowOf name number) holds =
     (readings : List Reading) × AreAccepted (holds name ∷ []) readings × (number < length (entries_of_all readings))
 CanBeDone (SelectOf topology names) holds =
     (machine : Machine) × IsMachine (holds topology) machine × ((readings : List Reading) × AreAccepted (map holds names) readings)
-CanBeDone (PlayOf topology script) holds = ⊥
+CanBeDone (PlayOf topology script) holds =
+    (machine : Machine) × IsMachine (holds topology) machine
+    × ((stated : Stated) × IsScript (limits_of machine) (holds script) stated
+    × CanBePlayed (setting_of machine stated) stated.commands holds)
+CanBeDone (GenOf number) holds =
+    (machine : Machine) × topology.States (generated.topology_text number) machine
+    × ((stated : Stated) × States (limits_of machine) (generated.script_text number) stated
+    × CanBePlayed (setting_of machine stated) stated.commands (bundle number))
+
+-- where it can be done, a text of held reads is that of a run that did all, or of one in which a read failed
+abbrev pub DoneWhereItCan : Type 0
+DoneWhereItCan =
+    (line : Asked) (holds : List ℕ → List ℕ) (reads : List Read) (files : Option ℕ) (text : List ℕ) (status : Status) →
+    CanBeDone line holds → AreHeld holds reads → AskedText line reads files text status →
+    (status ≡ Done) ⊎ (status ≡ ReadFault)

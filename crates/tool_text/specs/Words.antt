@@ -3,6 +3,7 @@
 --   show    the name of an update file, and the number of an entry
 --   select  the name of a topology, and one to 16 names of update files
 --   play    the names of a topology and of a script
+--   gen     a number
 -- No name begins with a dash, and a number has one of the spellings of numbers.
 use Rattle.std.specs.Prelude.{ℕ, ◌+◌, ◌==◌, ◌&&◌, nat_lt, nat_le, Bool, true, false, not, List, [], ◌∷◌, Option, Some, None, is_some, if◌then◌else◌, codes}
 use Rattle.std.specs.Str.{bytes_eq}
@@ -17,6 +18,7 @@ pub data Asked : Type 0 where
   ShowOf : List ℕ → ℕ → Asked
   SelectOf : List ℕ → List (List ℕ) → Asked
   PlayOf : List ℕ → List ℕ → Asked
+  GenOf : ℕ → Asked
 
 -- the word may stand for the name of a file
 abbrev pub is_name : List ℕ → Bool
@@ -31,6 +33,10 @@ may_name last index word = nat_le index last && is_name word
 abbrev pub may_show : ℕ → List ℕ → Bool
 may_show index word =
     if index == 1 then is_name word else if index == 2 then is_some (number_of word) else false
+
+-- a number alone
+abbrev pub may_gen : ℕ → List ℕ → Bool
+may_gen index word = if index == 1 then is_some (number_of word) else false
 
 -- The first word that may not stand at its index, the words being numbered from an index on; or, where they are fewer than
 -- are wanted, the index behind the last.
@@ -60,6 +66,10 @@ abbrev pub play_of : List (List ℕ) → Asked
 play_of (topology ∷ script ∷ words) = PlayOf topology script
 play_of words = Faulty 0
 
+abbrev pub gen_of : List (List ℕ) → Asked
+gen_of (number ∷ words) = GenOf (value_of (number_of number))
+gen_of words = Faulty 0
+
 -- the words after the program's name
 abbrev pub asked : List (List ℕ) → Asked
 asked [] = Faulty 0
@@ -67,4 +77,5 @@ asked (command ∷ words) =
     if bytes_eq command (codes "list") then unless_wrong (wrong_word (may_name MOST_FILES) 2 1 words) (ListOf words) else
     if bytes_eq command (codes "show") then unless_wrong (wrong_word may_show 3 1 words) (show_of words) else
     if bytes_eq command (codes "select") then unless_wrong (wrong_word (may_name (1 + MOST_FILES)) 3 1 words) (select_of words) else
-    if bytes_eq command (codes "play") then unless_wrong (wrong_word (may_name 2) 3 1 words) (play_of words) else Faulty 0
+    if bytes_eq command (codes "play") then unless_wrong (wrong_word (may_name 2) 3 1 words) (play_of words) else
+    if bytes_eq command (codes "gen") then unless_wrong (wrong_word may_gen 2 1 words) (gen_of words) else Faulty 0
