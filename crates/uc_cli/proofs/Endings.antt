@@ -14,9 +14,9 @@ use Rattle.file_reads.specs.Reads.{Read, NotRead, Refused, ReadsOf}
 use Rattle.file_reads.proofs.Outcomes.{held_nil, held_one}
 use Rattle.tool_text.specs.Words.{Asked}
 use Rattle.tool_text.specs.Commands.{FailsAt}
-use Rattle.tool_text.specs.Tool.{AskedText, FromReads, CanBeDone}
+use Rattle.tool_text.specs.Tool.{AskedText, FromReads, CanBeDone, DoneWhereItCan}
 use Rattle.tool_text.proofs.SomeText.{whether_told}
-use Rattle.tool_text.proofs.Complete.{IsEnd, complete}
+use Rattle.tool_text.proofs.Complete.{IsEnd}
 use Rattle.uc_cli.specs.Reading.{AreUpdatesRead, IsTopologyRead}
 use Rattle.uc_cli.specs.Refusal.{line_of, status_of}
 use Rattle.uc_cli.specs.declared.refusal.Refusal.{Refusal}
@@ -26,14 +26,7 @@ pub no_file : {P : Type 0} → IsSome {T = ℕ} None → P
 no_file some = absurd (false≢true some)
 
 module _ {D : Type 0} (stands : D → List ℕ → Type 0) (faults : D → ℕ) (old new : D) where
-  -- a write fault of a run that was to end with a status has its cause
-  pub ended_cause : (text : List ℕ) (meant status : Status) → WriteCause (faults old) (faults new) meant → Ends stands faults old new text meant status → WriteCause (faults old) (faults new) status
-  ended_cause text meant status cause ends = elim ends.outcome [
-    | inl whole ↦ subst (WriteCause (faults old) (faults new)) (sym whole.0) cause
-    | inr cut ↦ subst (WriteCause (faults old) (faults new)) (sym cut.0) cut.2
-  ]
-
-  -- and a read fault
+  -- a read fault of a run that was to end with a status has its cause
   pub ended_read : (before now : ℕ) (text : List ℕ) (meant status : Status) → ReadCause before now meant → Ends stands faults old new text meant status → ReadCause before now status
   ended_read before now text meant status cause ends = elim ends.outcome [
     | inl whole ↦ subst (ReadCause before now) (sym whole.0) cause
@@ -73,16 +66,6 @@ module _ {D : Type 0} (stands : D → List ℕ → Type 0) (faults : D → ℕ) 
   files_refused texts tells names holds before now NoMemory status has unread bad read ends =
       memory_written texts (Rose before now) status has ends
 
-  -- the causes of such an end
-  pub files_cause : (tells : Type 0) (names : List (List ℕ)) (holds : List ℕ → List ℕ) (before now : ℕ) (refusal : Refusal) → AreUpdatesRead tells names holds before now (Err refusal)
-      → ReadCause before now (status_of refusal) × WriteCause (faults old) (faults new) (status_of refusal)
-  files_cause tells names holds before now (Unread name) read = (read.0, tt)
-  files_cause tells names holds before now (BadFile name fault) read = (read.0, tt)
-  files_cause tells names holds before now (BadTopology fault) read = absurd read
-  files_cause tells names holds before now (BadScript fault) read = absurd read
-  files_cause tells names holds before now (NoEntry number) read = absurd read
-  files_cause tells names holds before now NoMemory read = (tt, tt)
-
   -- a run that did not get its topology, by texts in which such ends are
   pub topology_refused : (texts : List Read → Option ℕ → List ℕ → Status → Type 0) (tells : Type 0) (topology : List ℕ) (holds : List ℕ → List ℕ) (before now : ℕ) (refusal : Refusal) (status : Status)
       → ((reads : List Read) (files : Option ℕ) (text : List ℕ) (ends : Status) → FailsAt topology reads files text ends → texts reads files text ends) → HasText (FromReads (Unit {0}) holds texts)
@@ -114,22 +97,22 @@ not_end status not_done not_unread (inl done) = not_done (ap code_of done)
 not_end status not_done not_unread (inr unread) = not_unread (ap code_of unread)
 
 -- a text of files that tell and can be done is no end but these
-told_end : (tells : Type 0) (line : Asked) (holds : List ℕ → List ℕ) (files : Option ℕ) (text : List ℕ) (status : Status) → tells → CanBeDone line holds → FromReads tells holds (AskedText line) files text status → IsEnd status
-told_end tells line holds files text status tell can is = complete holds is.reads (is.held tell) line files text status can is.is_text
+told_end : DoneWhereItCan → (tells : Type 0) (line : Asked) (holds : List ℕ → List ℕ) (files : Option ℕ) (text : List ℕ) (status : Status) → tells → CanBeDone line holds → FromReads tells holds (AskedText line) files text status → IsEnd status
+told_end law tells line holds files text status tell can is = law line holds is.reads files text status can (is.held tell) is.is_text
 
 -- what can be done is done, where no count of faults rose and memory is there
-pub done_or_memory : {D : Type 0} (stands : D → List ℕ → Type 0) (old new : D) (tells : Type 0) (line : Asked) (holds : List ℕ → List ℕ) (rose : Type 0) (read wrote : ℕ × ℕ) (status : Status) → tells → CanBeDone line holds
+pub done_or_memory : DoneWhereItCan → {D : Type 0} (stands : D → List ℕ → Type 0) (old new : D) (tells : Type 0) (line : Asked) (holds : List ℕ → List ℕ) (rose : Type 0) (read wrote : ℕ × ℕ) (status : Status) → tells → CanBeDone line holds
     → Written (FromReads tells holds (AskedText line)) rose stands old new status → ReadCause read.0 read.1 status → WriteCause wrote.0 wrote.1 status → (Rose read.0 read.1 → ⊥) → (Rose wrote.0 wrote.1 → ⊥)
     → (status ≡ statuses.Done) ⊎ (status ≡ statuses.NoMemory)
-done_or_memory stands old new tells line holds rose read wrote statuses.Done tell can written rc wc no_read no_write = inl refl
-done_or_memory stands old new tells line holds rose read wrote (statuses.Usage k) tell can written rc wc no_read no_write =
-    absurd (not_end (statuses.Usage k) (λ e. omega (arith, e)) (λ e. omega (arith, e)) (told_end tells line holds written.files written.text _ tell can written.is_text))
-done_or_memory stands old new tells line holds rose read wrote statuses.BadInput tell can written rc wc no_read no_write =
-    absurd (not_end statuses.BadInput (λ e. omega (arith, e)) (λ e. omega (arith, e)) (told_end tells line holds written.files written.text _ tell can written.is_text))
-done_or_memory stands old new tells line holds rose read wrote statuses.Short tell can written rc wc no_read no_write =
-    absurd (not_end statuses.Short (λ e. omega (arith, e)) (λ e. omega (arith, e)) (told_end tells line holds written.files written.text _ tell can written.is_text))
-done_or_memory stands old new tells line holds rose read wrote statuses.ReadFault tell can written rc wc no_read no_write = absurd (no_read rc)
-done_or_memory stands old new tells line holds rose read wrote statuses.WriteFault tell can written rc wc no_read no_write = absurd (no_write wc)
-done_or_memory stands old new tells line holds rose read wrote (statuses.Panicked t) tell can written rc wc no_read no_write =
-    absurd (not_end (statuses.Panicked t) (λ e. omega (arith, e)) (λ e. omega (arith, e)) (told_end tells line holds written.files written.text _ tell can written.is_text))
-done_or_memory stands old new tells line holds rose read wrote statuses.NoMemory tell can written rc wc no_read no_write = inr refl
+done_or_memory law stands old new tells line holds rose read wrote statuses.Done tell can written rc wc no_read no_write = inl refl
+done_or_memory law stands old new tells line holds rose read wrote (statuses.Usage k) tell can written rc wc no_read no_write =
+    absurd (not_end (statuses.Usage k) (λ e. omega (arith, e)) (λ e. omega (arith, e)) (told_end law tells line holds written.files written.text _ tell can written.is_text))
+done_or_memory law stands old new tells line holds rose read wrote statuses.BadInput tell can written rc wc no_read no_write =
+    absurd (not_end statuses.BadInput (λ e. omega (arith, e)) (λ e. omega (arith, e)) (told_end law tells line holds written.files written.text _ tell can written.is_text))
+done_or_memory law stands old new tells line holds rose read wrote statuses.Short tell can written rc wc no_read no_write =
+    absurd (not_end statuses.Short (λ e. omega (arith, e)) (λ e. omega (arith, e)) (told_end law tells line holds written.files written.text _ tell can written.is_text))
+done_or_memory law stands old new tells line holds rose read wrote statuses.ReadFault tell can written rc wc no_read no_write = absurd (no_read rc)
+done_or_memory law stands old new tells line holds rose read wrote statuses.WriteFault tell can written rc wc no_read no_write = absurd (no_write wc)
+done_or_memory law stands old new tells line holds rose read wrote (statuses.Panicked t) tell can written rc wc no_read no_write =
+    absurd (not_end (statuses.Panicked t) (λ e. omega (arith, e)) (λ e. omega (arith, e)) (told_end law tells line holds written.files written.text _ tell can written.is_text))
+done_or_memory law stands old new tells line holds rose read wrote statuses.NoMemory tell can written rc wc no_read no_write = inr refl

@@ -1,4 +1,9 @@
+mod Causes
 mod Endings
+mod Generating
 mod Groups
+mod StatusKinds
+mod Headline
 mod Names
 mod Playing
+mod Generated

@@ -33,7 +33,7 @@ use Rattle.uc_cli.specs.Refusal as refusals
 use Rattle.uc_cli.specs.Refusal.{line_of}
 use Rattle.uc_cli.specs.declared.refusal.Refusal.{Refusal}
 use Rattle.uc_cli.specs.declared.refusal.Refusal.TheVariants.{Unread, BadFile, BadTopology, BadScript, NoEntry, NoMemory}
-use Rattle.uc_cli.proofs.Endings.{bad_written, unread_written, memory_written, ended_cause, ended_read}
+use Rattle.uc_cli.proofs.Endings.{bad_written, unread_written, memory_written}
 
 -- ---- answers
 

@@ -1,3 +1,5 @@
+pub mod Ends
+pub mod Generating
 pub mod Playing
 pub mod Reading
 pub mod Refusal

@@ -2,6 +2,7 @@
 //! sink.
 #![tactic(auto)]
 
+mod generate;
 mod list;
 mod play;
 mod reading;

@@ -1,6 +1,7 @@
 //! Why a command writes nothing but a line that says so.
 ghost use Rattle.std.specs.Prelude.{◌≡◌};
 ghost use Rattle.uc_io.specs.Writing.{Writes};
+ghost use Rattle.top_call.specs.Causes.{WriteCause};
 ghost use Rattle.top_call.specs.Written.{Ends, memory_line};
 ghost use Rattle.uc_cli.specs.Refusal.{line_of, status_of};
 
@@ -37,7 +38,8 @@ fn put_memory<S: Sink>(out: &mut S) -> Result<(), SinkFailed>
 
 /// Writes the line on a refusal.
 pub fn refuse<S: Sink>(out: &mut S, refusal: Refusal<'_>) -> Status
-    ensures { Ends S.stands S.faults out.old out.new (line_of refusal.entry) (status_of refusal.entry) result }
+    ensures ends { Ends S.stands S.faults out.old out.new (line_of refusal.entry) (status_of refusal.entry) result }
+    ensures cause { WriteCause (S.faults out.old) (S.faults out.new) result }
 {
     match refusal {
         Refusal::Unread(name) => after_write(Status::ReadFault, put_unread(out, name)),

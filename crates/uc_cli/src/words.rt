@@ -1,6 +1,6 @@
 //! The rule of the command line.
 ghost use Rattle.std.specs.Prelude.{◌≡◌, ◌+◌, ◌≤◌, ◌<◌, Ok, Err, length, MatchResult, IfOk};
-ghost use Rattle.tool_text.specs.Words.{Asked, ListOf, asked, is_name, may_name, may_show, wrong_word, unless_wrong, show_of, select_of, play_of, Faulty};
+ghost use Rattle.tool_text.specs.Words.{Asked, ListOf, asked, is_name, may_name, may_show, may_gen, wrong_word, unless_wrong, show_of, select_of, play_of, gen_of, Faulty};
 ghost use Rattle.uc_cli.specs.Words.{Asks, HasFewNames};
 
 use tool_text::MOST_FILES;
@@ -18,6 +18,8 @@ pub enum Command<'a> {
     Select(&'a Text, &'a [Text]),
     /// `play TOPOLOGY SCRIPT`
     Play(&'a Text, &'a Text),
+    /// `gen NUMBER`
+    Gen(u64),
 }
 
 /// Whether a word may stand for the name of a file.
@@ -117,6 +119,26 @@ fn play_words(words: &[Text]) -> Result<Command<'_>, u32>
     }
 }
 
+/// The words behind `gen`.
+fn gen_words(words: &[Text]) -> Result<Command<'_>, u32>
+    ensures asks { Asks (unless_wrong (wrong_word may_gen 2 1 words.now) (gen_of words.now)) result }
+    ensures few { IfOk result HasFewNames }
+{
+    let [spelling, more @ ..] = words else {
+        return Err(1);
+    };
+    match number(spelling.as_str().as_bytes()) {
+        None => Err(1),
+        Some(number) => {
+            if more.is_empty() {
+                Ok(Command::Gen(number))
+            } else {
+                Err(2)
+            }
+        }
+    }
+}
+
 /// The command that the words ask for, or the index of the first word that cannot stand in its place, which is the number
 /// of words where one is missing.
 pub fn read_words(words: &[Text]) -> Result<Command<'_>, u32>
@@ -131,6 +153,7 @@ pub fn read_words(words: &[Text]) -> Result<Command<'_>, u32>
         "show" => show_words(rest),
         "select" => select_words(rest),
         "play" => play_words(rest),
+        "gen" => gen_words(rest),
         _ => Err(0),
     }
 }

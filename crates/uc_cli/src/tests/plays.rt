@@ -61,3 +61,17 @@ fn reads_the_topology_before_the_script(rt: HostRuntime) -> Result<(), Fail> {
     }
     Ok(())
 }
+
+#[test]
+fn counts_what_a_generated_session_writes(rt: HostRuntime) -> Result<(), Fail> {
+    let alloc = rt.alloc();
+    let mut files = sample_files(alloc)?;
+    let mut out = MemSink::new(alloc, ROOM)?;
+    let found = run(alloc, "gen 1", &mut files, &mut out)?;
+    assert_eq!(rt; found, Status::Done);
+    assert_eq!(rt;
+        out.bytes(),
+        "gen 1 lines 12870 last answer done\n".as_bytes()
+    );
+    Ok(())
+}

@@ -1,12 +1,12 @@
 use Rattle.std.proofs.Common.{length, refl}
 use Rattle.top_call.specs.declared.status.Status.TheVariants.{Done}
-use Rattle.top_call.proofs.Endings.{Ends-written}
+use Rattle.top_call.proofs.Endings.{Ends-written, ended_cause}
 use Rattle.file_reads.specs.Reads.{AllRead, NotRead, Refused}
 use Rattle.report_text.specs.Listing.{files_text}
 use Rattle.tool_text.specs.Commands.{ListText}
 use Rattle.tool_text.specs.Tool.{FromReads}
 use Rattle.tool_text.proofs.SomeText.{date_text_of, are_date_texts, list_text, whether_told}
-use Rattle.uc_cli.proofs.Endings.{ended_cause, done_written, files_refused}
+use Rattle.uc_cli.proofs.Endings.{done_written, files_refused}
 use Rattle.update_reads.proofs.Files.{readings_of}
 use Rattle.uc_cli.proofs.list.list.Goals as goal
 
@@ -34,7 +34,7 @@ pub returns-in-Ok-clause-write_cause : goal.returns-in-Ok-clause-write_cause
 returns-in-Ok-clause-write_cause g c =
     let of = c.in-Ok.ensures.answer.1 in
     let wrote = c.put_list.ensures date_text_of of.readings are_date_texts (readings_of _ _ _ _ of) of.entries in
-    ended_cause g.S.Sink.stands g.S.Sink.faults _ _ _ Done _ tt (Ends-written g.S.Sink.stands g.S.Sink.faults _ _ _ Done _ _ wrote c.after_write.ensures)
+    ended_cause g.S.Sink.stands g.S.Sink.faults _ _ _ Done _ (λ e. cc) (Ends-written g.S.Sink.stands g.S.Sink.faults _ _ _ Done _ _ wrote c.after_write.ensures)
 
 pub returns-in-Err-clause-written : goal.returns-in-Err-clause-written
 returns-in-Err-clause-written g c =
@@ -45,4 +45,4 @@ returns-in-Err-clause-written g c =
     (λ name of. (length of.reads, record { reads = of.reads; held = of.held; is_text = record { outcome = NotRead name; come = of.come; count = refl; listed = refl } }))
     (λ name offset cause of. record { reads = of.reads; held = of.held; is_text = record { outcome = Refused name offset cause; come = of.come; count = refl; listed = refl } })
     c.in-Err.ensures.answer
-    c.refuse.ensures
+    c.refuse.ensures.ends

@@ -1,6 +1,7 @@
 use Rattle.std.proofs.Common.{◌≡◌, ℕ, List, inl, ◌∙◌, ap}
 use Rattle.script_text.proofs.Kept.{within}
 use Rattle.tool_text.specs.Plays.{limits_of, PlayText}
+use Rattle.uc_cli.proofs.Causes.{session_cause}
 use Rattle.uc_cli.proofs.Endings.{topology_refused}
 use Rattle.uc_cli.proofs.Playing.{script_refused, session_written}
 use Rattle.uc_cli.proofs.play.play.Goals as goal
@@ -12,7 +13,7 @@ returns-in-Err-clause-written g c =
     let holds = g.F.Files.holds c.args.files.now in
     topology_refused g.S.Sink.stands g.S.Sink.faults _ _ (PlayText topology script) _ topology holds _ _ c.in-Err.refusal _ (λ reads files text status fails. inl fails) (c.some_session_text.ensures.played topology script holds)
     c.in-Err.ensures.answer
-    c.refuse.ensures
+    c.refuse.ensures.ends
 
 pub returns-in-Err-read_commands-clause-written : goal.returns-in-Err-read_commands-clause-written
 returns-in-Err-read_commands-clause-written g c =
@@ -26,12 +27,17 @@ returns-in-Err-read_commands-clause-written g c =
     c.in-Err-read_commands.refusal
     _
     c.in-Err-read_commands.ensures.answer
-    c.refuse-in-Err-read_commands.ensures
+    c.refuse-in-Err-read_commands.ensures.ends
 
 pub run_session-answer-requires-clause-within : goal.run_session-answer-requires-clause-within
 run_session-answer-requires-clause-within g c =
     let script = c.in-Ok-read_commands.ensures.answer.1 in
     within (limits_of c.in-Ok.machine) script.0 c.in-Ok-read_commands.script script.2.states
+
+pub returns-clause-write_cause : goal.returns-clause-write_cause
+returns-clause-write_cause g c =
+    session_cause g.S.Sink.stands g.S.Sink.faults _ _ _ _ c.run_session-answer.result
+    c.run_session-answer.ensures.sink_cause c.end_session.ensures
 
 pub returns-clause-written : goal.returns-clause-written
 returns-clause-written g c =

@@ -1,6 +1,6 @@
 use Rattle.std.proofs.Common.{ℕ, suc, ◌≡◌, List, ◌∷◌, Err, inl, inr, length, refl, subst}
 use Rattle.top_call.specs.declared.status.Status.TheVariants.{Done}
-use Rattle.top_call.proofs.Endings.{Ends-written}
+use Rattle.top_call.proofs.Endings.{Ends-written, ended_cause}
 use Rattle.file_entries.specs.Entry.{Entry}
 use Rattle.file_reads.specs.Reads.{Read, AreHeld, AllRead, NotRead, Refused}
 use Rattle.file_reads.proofs.Outcomes.{held_cons}
@@ -25,7 +25,7 @@ returns-in-Err-clause-written g c =
     let names = c.args.names.now in
     let holds = g.F.Files.holds c.args.files.now in
     topology_refused g.S.Sink.stands g.S.Sink.faults _ _ (SelectText topology names) _ topology holds _ _ c.in-Err.refusal _ (λ reads files text status fails. inl fails) (select_text topology names holds) c.in-Err.ensures.answer
-    c.refuse.ensures
+    c.refuse.ensures.ends
 
 pub returns-in-Ok-read_updates-clause-written : goal.returns-in-Ok-read_updates-clause-written
 returns-in-Ok-read_updates-clause-written g c =
@@ -54,6 +54,10 @@ returns-in-Ok-read_updates-clause-written g c =
           });
     })
     (Ends-written g.S.Sink.stands g.S.Sink.faults _ _ _ Done _ _ puts.wrote c.after_write.ensures)
+
+pub returns-in-Ok-read_updates-clause-write_cause : goal.returns-in-Ok-read_updates-clause-write_cause
+returns-in-Ok-read_updates-clause-write_cause g c =
+    ended_cause g.S.Sink.stands g.S.Sink.faults _ _ _ Done _ (λ e. cc) (Ends-written g.S.Sink.stands g.S.Sink.faults _ _ _ Done _ _ c.put_selection.ensures.wrote c.after_write.ensures)
 
 pub returns-in-Err-read_updates-clause-written : goal.returns-in-Err-read_updates-clause-written
 returns-in-Err-read_updates-clause-written g c =
@@ -105,4 +109,4 @@ returns-in-Err-read_updates-clause-written g c =
           });
     })
     read
-    c.refuse-in-Err-read_updates.ensures
+    c.refuse-in-Err-read_updates.ensures.ends

@@ -2,7 +2,7 @@ use Rattle.std.proofs.Common.{◌≡◌, ℕ, ◌<◌, ◌≤◌, List, [], ◌�
 use Rattle.std.specs.Prelude.{slice_get}
 use Rattle.std.proofs.lemmas.Option.{slice_get-get_or}
 use Rattle.top_call.specs.declared.status.Status.TheVariants.{Done}
-use Rattle.top_call.proofs.Endings.{Ends-written}
+use Rattle.top_call.proofs.Endings.{Ends-written, ended_cause}
 use Rattle.file_entries.specs.Entry.{Entry, patch_entry}
 use Rattle.file_reads.specs.Reads.{AllRead, NotRead, Refused}
 use Rattle.uc_catalog.specs.Contents.{entry_at}
@@ -13,7 +13,7 @@ use Rattle.tool_text.specs.Tool.{FromReads}
 use Rattle.tool_text.proofs.SomeText.{date_text_of, are_date_texts, show_text_of, whether_told}
 use Rattle.update_reads.specs.Reading.{IsOfFiles}
 use Rattle.uc_cli.specs.Reading.{AreUpdatesRead}
-use Rattle.uc_cli.proofs.Endings.{ended_cause, done_written, bad_written, files_refused}
+use Rattle.uc_cli.proofs.Endings.{done_written, bad_written, files_refused}
 use Rattle.uc_cli.proofs.show.show.Goals as goal
 
 pub returns-then-number-from-clause-written : goal.returns-then-number-from-clause-written
@@ -40,7 +40,7 @@ returns-then-number-from-clause-written g c =
 
 pub returns-then-number-from-clause-write_cause : goal.returns-then-number-from-clause-write_cause
 returns-then-number-from-clause-write_cause g c =
-    ended_cause g.S.Sink.stands g.S.Sink.faults _ _ _ Done _ tt (Ends-written g.S.Sink.stands g.S.Sink.faults _ _ _ Done _ _ (c.put_show.ensures date_text_of are_date_texts) c.after_write.ensures)
+    ended_cause g.S.Sink.stands g.S.Sink.faults _ _ _ Done _ (λ e. cc) (Ends-written g.S.Sink.stands g.S.Sink.faults _ _ _ Done _ _ (c.put_show.ensures date_text_of are_date_texts) c.after_write.ensures)
 
 pub returns-in-Ok-clause-written : goal.returns-in-Ok-clause-written
 returns-in-Ok-clause-written g c =
@@ -56,7 +56,7 @@ returns-in-Ok-clause-written g c =
       held = of.held;
       is_text = record { outcome = AllRead of.readings; come = (of.in_order, of.accepted); count = refl; shown = (past, refl) };
     })
-    c.refuse.ensures
+    c.refuse.ensures.ends
 
 pub returns-clause-written : goal.returns-clause-written
 returns-clause-written g c =
@@ -68,4 +68,4 @@ returns-clause-written g c =
     (λ which of. (length of.reads, record { reads = of.reads; held = of.held; is_text = record { outcome = NotRead which; come = of.come; count = refl; shown = refl } }))
     (λ which offset cause of. record { reads = of.reads; held = of.held; is_text = record { outcome = Refused which offset cause; come = of.come; count = refl; shown = refl } })
     (subst (λ (names : List (List ℕ)). AreUpdatesRead tells names holds (g.F.Pieces.faults c.args.files.now) (g.F.Pieces.faults c.read_updates.new.files) (Err c.in-Err.refusal)) c.from_ref.ensures.value c.in-Err.ensures.answer)
-    c.refuse-in-Err.ensures
+    c.refuse-in-Err.ensures.ends
