@@ -8,7 +8,6 @@ mod faults;
 mod lists;
 mod plays;
 mod selections;
-mod sessions;
 
 /// Room for each text of these tests.
 const ROOM: usize = 4_096;
