@@ -1,14 +1,14 @@
 #!/usr/bin/env python3
 """Measures a core that plays a schedule, and prints one table. README.md beside it says what and how."""
 import os
-import resource
-import shutil
 import subprocess
 import sys
 import tempfile
 
+import page
+
 RUNS = 15
-BELOW = "rendezvous_steps rendezvous_rule ctl_words ctl_core uc_bytes uc_io uc_text arrayvec"
+USED = "rendezvous_steps rendezvous_rule ctl_words ctl_core uc_bytes uc_io uc_text arrayvec"
 PROGRAM = r"""
 //! Plays one of two loads of 256 threads, two in each group, and prints how many lines and bytes came out, what was
 //! decided, and the sum of the revisions: `storm N` is N steps in turn of all threads but the last, which is held back,
@@ -159,45 +159,9 @@ fn main(rt: HostRuntime) -> ExitCode {
 """
 
 
-def crates_below(root):
-    """Returns the lines of crates.txt for the crates that the program stands on, each with the crates below it."""
-    with open(os.path.join(root, "crates.txt")) as file:
-        listed = dict(line.rstrip("\n").split(":", 1) for line in file if ":" in line)
-    names, todo = set(), BELOW.split()
-    while todo:
-        name = todo.pop()
-        if name in listed and name not in names:
-            names.add(name)
-            todo += listed[name].split()
-    return {name: below for name, below in listed.items() if name in names}
-
-
-def build(root):
-    """Builds the program in the current folder, over copies of the crates that it stands on, and returns its path."""
-    crates = crates_below(root)
-    for name in crates:
-        shutil.copytree(os.path.join(root, "crates", name), os.path.join("crates", name))
-    os.makedirs("crates/core_bench/src")
-    with open("crates/core_bench/src/main.rt", "w") as file:
-        file.write(PROGRAM.lstrip())
-    with open("crates.txt", "w") as file:
-        file.writelines(f"{name}:{below}\n" for name, below in crates.items())
-        file.write(f"core_bench: {BELOW}\n")
-    subprocess.run(["rt", "run", "--", "wide", "1"], cwd="crates/core_bench", stdout=sys.stderr, check=True)
-    return os.path.abspath("crates/core_bench/out/core_bench")
-
-
-def run(command):
-    """Runs a command to its end, and returns the processor time that it took in seconds, and what it printed."""
-    before = resource.getrusage(resource.RUSAGE_CHILDREN)
-    printed = subprocess.run(command, stdout=subprocess.PIPE, check=True).stdout
-    after = resource.getrusage(resource.RUSAGE_CHILDREN)
-    return after.ru_utime + after.ru_stime - before.ru_utime - before.ru_stime, printed
-
-
 def expect_alike(words, *programs):
     """Ends the script where programs print different texts for the same words."""
-    texts = {run([program, *words])[1] for program in programs}
+    texts = {page.run([program, *words])[1] for program in programs}
     if len(texts) != 1 or texts == {b""}:
         sys.exit(f"{' '.join(words)}: the core and the plain simulator differ, so nothing is measured.")
 
@@ -206,7 +170,7 @@ def ratios(core, plain, load, number):
     """Returns the least time of the core for a load to the plain simulator's, and to its own for half the load."""
     expect_alike([load, str(number)], core, plain)
     commands = [core, load, str(number)], [plain, load, str(number)], [core, load, str(number // 2)]
-    times = [[run(command)[0] for command in commands] for _ in range(RUNS)]
+    times = [[page.run(command)[0] for command in commands] for _ in range(RUNS)]
     whole, to, half = (min(column) for column in zip(*times))
     return f"{whole / to:.2f}", f"{whole / half:.2f}"
 
@@ -217,7 +181,7 @@ def main():
         os.chdir(folder)
         plain = os.path.join(folder, "rounds")
         subprocess.run(["gcc", "-O2", "-o", plain, os.path.join(here, "rounds.c")], check=True)
-        core = build(os.path.dirname(here))
+        core = page.build("core_bench", PROGRAM, USED, "wide", "1")
         for words in (["storm", "100000", "text"], ["wide", "3", "text"]):
             expect_alike(words, core, plain)
         storm, wide = ratios(core, plain, "storm", 4_000_000), ratios(core, plain, "wide", 1_000)

@@ -1,14 +1,12 @@
 #!/usr/bin/env python3
 """Measures puts and frees of a patch region, and prints one table. README.md beside it says what and how."""
 import os
-import shutil
-import subprocess
-import sys
 import tempfile
 
+import page
+
 RUNS = 15
-CRATES = {"uc_bytes": "byteorder", "region_steps": "", "patch_pool": "region_steps uc_bytes",
-          "pool_bench": "region_steps uc_bytes patch_pool"}
+USED = "uc_bytes region_steps patch_pool"
 PROGRAM = """\
 //! Fills a region with patches of one block and frees them, one after another: a region of half the blocks where a word
 //! is given.
@@ -45,35 +43,11 @@ fn main(rt: HostRuntime) -> ExitCode {
 """
 
 
-def build(root):
-    """Builds the program in the current folder, over copies of the crates that it stands on, and returns its path."""
-    for name in CRATES:
-        source = os.path.join(root, "crates", name)
-        if os.path.isdir(source):
-            shutil.copytree(source, os.path.join("crates", name), ignore=shutil.ignore_patterns("out"))
-    os.makedirs("crates/pool_bench/src")
-    with open("crates/pool_bench/src/main.rt", "w") as file:
-        file.write(PROGRAM)
-    with open("crates.txt", "w") as file:
-        file.writelines(f"{name}: {below}\n" for name, below in CRATES.items())
-    subprocess.run(["rt", "run"], cwd="crates/pool_bench", stdout=sys.stderr, check=True)
-    return os.path.abspath("crates/pool_bench/out/pool_bench")
-
-
-def run(command):
-    """Runs a command to its end, and returns the processor time that it took in seconds."""
-    _, status, usage = os.wait4(os.posix_spawn(command[0], command, os.environ), 0)
-    if status != 0:
-        sys.exit(f"{' '.join(command)}\nended with status {os.waitstatus_to_exitcode(status)}, so nothing is measured.")
-    return usage.ru_utime + usage.ru_stime
-
-
 def main():
-    root = os.path.dirname(os.path.dirname(os.path.abspath(__file__)))
     with tempfile.TemporaryDirectory() as folder:
         os.chdir(folder)
-        program = build(root)
-        times = [(run([program]), run([program, "half"])) for _ in range(RUNS)]
+        program = page.build("pool_bench", PROGRAM, USED)
+        times = [(page.run([program])[0], page.run([program, "half"])[0]) for _ in range(RUNS)]
         os.chdir("/")
     ratio = min(whole for whole, half in times) / min(half for whole, half in times)
     print("| Patch region | Measured | Target |\n|---|---|---|")

@@ -1,11 +1,11 @@
 #!/usr/bin/env python3
 """Measures the reader of scripts, and prints one table. README.md beside it says what and how."""
 import os
-import resource
-import shutil
 import subprocess
 import sys
 import tempfile
+
+import page
 
 RUNS = 15
 SIZE = 2**24
@@ -14,7 +14,7 @@ MOST_EVENTS = 4_194_304
 THREADS = 256
 NAME = "script"
 HEAD, LOAD, END = b"ucode-script 1\n", b"load a.bin\n", b"end\n"
-BELOW = "uc_bytes uc_io rendezvous_steps script_text uc_script"
+USED = "uc_bytes uc_io rendezvous_steps script_text uc_script"
 PROGRAM = r"""
 //! Reads the script whose name is given, for a machine of 256 threads and 128 cores, and prints how many commands it
 //! has and how many beats its loads have; or the line of its first fault.
@@ -118,48 +118,11 @@ SHAPES = (
 )
 
 
-def crates_below(root):
-    """Returns the lines of crates.txt for the crates that the program stands on, each with the crates below it."""
-    with open(os.path.join(root, "crates.txt")) as file:
-        listed = dict(line.rstrip("\n").split(":", 1) for line in file if ":" in line)
-    names, todo = set(), BELOW.split()
-    while todo:
-        name = todo.pop()
-        if name in listed and name not in names:
-            names.add(name)
-            todo += listed[name].split()
-    return {name: below for name, below in listed.items() if name in names}
-
-
-def build(root):
-    """Builds the program in the current folder, over copies of the crates that it stands on, and returns its path."""
-    crates = crates_below(root)
-    for name in crates:
-        shutil.copytree(os.path.join(root, "crates", name), os.path.join("crates", name))
-    os.makedirs("crates/script_bench/src")
-    with open("crates/script_bench/src/main.rt", "w") as file:
-        file.write(PROGRAM.lstrip())
-    with open("crates.txt", "w") as file:
-        file.writelines(f"{name}:{below}\n" for name, below in crates.items())
-        file.write(f"script_bench: {BELOW}\n")
-    write_loads(["s1"])
-    subprocess.run(["rt", "run", "--", os.path.abspath(NAME)], cwd="crates/script_bench", stdout=sys.stderr, check=True)
-    return os.path.abspath("crates/script_bench/out/script_bench")
-
-
-def run(command):
-    """Runs a command to its end, and returns the processor time that it took in seconds, and what it printed."""
-    before = resource.getrusage(resource.RUSAGE_CHILDREN)
-    printed = subprocess.run(command, stdout=subprocess.PIPE, check=True).stdout
-    after = resource.getrusage(resource.RUSAGE_CHILDREN)
-    return after.ru_utime + after.ru_stime - before.ru_utime - before.ru_stime, printed
-
-
 def ratio(reader, plain, wanted):
     """Returns the least time of the reader to that of the program that counts words."""
-    if run([reader, NAME])[1] != wanted:
+    if page.run([reader, NAME])[1] != wanted:
         sys.exit(f"the reader does not find {wanted.decode().strip()}, so nothing is measured.")
-    times = [(run([reader, NAME])[0], run([plain, NAME])[0]) for _ in range(RUNS)]
+    times = [(page.run([reader, NAME])[0], page.run([plain, NAME])[0]) for _ in range(RUNS)]
     return min(ours for ours, to in times) / min(to for ours, to in times)
 
 
@@ -169,7 +132,8 @@ def main():
         os.chdir(folder)
         plain = os.path.join(folder, "count_words")
         subprocess.run(["gcc", "-O2", "-o", plain, os.path.join(here, "count_words.c")], check=True)
-        reader = build(os.path.dirname(here))
+        write_loads(["s1"])
+        reader = page.build("script_bench", PROGRAM, USED, os.path.abspath(NAME))
         print("| 16 MiB of script: time, to the program's that counts words | Measured | Target |\n|---|---|---|")
         for text, write in SHAPES:
             print(f"| {text} | {ratio(reader, plain, write()):.2f} | at most 1.5 |", flush=True)
