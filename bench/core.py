@@ -20,7 +20,7 @@ ghost use Rattle.ctl_words.specs.Plans.{IsSound};
 ghost use Rattle.rendezvous_rule.specs.Runs.{BeatInRange};
 
 use arrayvec::ArrayVec;
-use ctl_core::{Beat, Event, Outcome, Plan, Rendezvous, Scheduled, are_in_range};
+use ctl_core::{Beat, Outcome, Plan, Rendezvous, Scheduled, are_in_range};
 use ctl_words::Kind;
 use std::alloc::Global;
 use std::env::Env;
@@ -83,7 +83,7 @@ fn schedule(alloc: Global, is_storm: bool, number: u64) -> Result<Vec<Beat>, NoM
         return Ok(beats);
     }
     for step in 0..number {
-        beats.push(Beat::One(Event::Step((step % 255) as u16)))?;
+        beats.push(Beat::Step((step % 255) as u16))?;
     }
     Ok(beats)
 }

@@ -8,9 +8,10 @@ use Rattle.uc_io.specs.Writing.{Writes}
 use Rattle.uc_io.proofs.Writes.{Writes-then, Writes-more}
 use Rattle.rendezvous_steps.specs.declared.items.Event.{Event}
 use Rattle.rendezvous_steps.specs.declared.items.Item.{Item}
+use Rattle.rendezvous_steps.specs.declared.items.Event.TheVariants as event
 use Rattle.rendezvous_steps.specs.declared.items.Event.TheVariants.{Step}
 use Rattle.rendezvous_steps.specs.declared.ends.Beat.{Beat}
-use Rattle.rendezvous_steps.specs.declared.ends.Beat.TheVariants.{One, Rounds}
+use Rattle.rendezvous_steps.specs.declared.ends.Beat.TheVariants as beat
 use Rattle.rendezvous_steps.specs.Plan.{Plan, threads_from}
 use Rattle.rendezvous_rule.specs.Ran.{events_of, repeated}
 use Rattle.rendezvous_steps.specs.Events.{Running, opening_running}
@@ -129,8 +130,11 @@ repeated_rest (suc n) round rest = ap (λ (events : List Event). round ++ events
 -- the events of beats, and of others behind them
 events_append : (plan : Plan) (xs ys : List Beat) → events_of plan (xs ++ ys) ≡ events_of plan xs ++ events_of plan ys
 events_append plan [] ys = refl
-events_append plan (One event ∷ xs) ys = ap (λ (events : List Event). event ∷ events) (events_append plan xs ys)
-events_append plan (Rounds n ∷ xs) ys =
+events_append plan (beat.Step t ∷ xs) ys = ap (λ (events : List Event). Step t ∷ events) (events_append plan xs ys)
+events_append plan (beat.Timeout t ∷ xs) ys = ap (λ (events : List Event). event.Timeout t ∷ events) (events_append plan xs ys)
+events_append plan (beat.Nmi t ∷ xs) ys = ap (λ (events : List Event). event.Nmi t ∷ events) (events_append plan xs ys)
+events_append plan (beat.Run t ∷ xs) ys = ap (λ (events : List Event). event.Run t ∷ events) (events_append plan xs ys)
+events_append plan (beat.Rounds n ∷ xs) ys =
     let round = map Step (threads_from plan 0) in
     ap (λ (rest : List Event). repeated n round rest) (events_append plan xs ys)
     ∙ (repeated_rest n round (events_of plan xs ++ events_of plan ys)

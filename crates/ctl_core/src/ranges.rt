@@ -17,7 +17,8 @@ fn is_in_range(beat: Beat, threads: u16) -> bool
     ensures { IsTrue result ↔ BeatInRange threads beat }
 {
     match beat {
-        Beat::One(event) => is_below(event, threads),
+        Beat::Step(thread) | Beat::Timeout(thread) | Beat::Nmi(thread) | Beat::Run(thread) => thread
+            < threads,
         Beat::Rounds(_) => true,
     }
 }

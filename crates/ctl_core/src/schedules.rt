@@ -100,7 +100,10 @@ fn play_beat<S: Sink>(core: &mut Core<'_>, beat: Beat, out: &mut S) -> Result<()
     ensures plan { plan_in core.new ≡ plan_in core.old }
 {
     match beat {
-        Beat::One(event) => play_event(core, event, out),
+        Beat::Step(thread) => play_event(core, Event::Step(thread), out),
+        Beat::Timeout(thread) => play_event(core, Event::Timeout(thread), out),
+        Beat::Nmi(thread) => play_event(core, Event::Nmi(thread), out),
+        Beat::Run(thread) => play_event(core, Event::Run(thread), out),
         Beat::Rounds(count) => play_rounds(core, count, out),
     }
 }

@@ -280,10 +280,10 @@ fn beats(rt: &impl Abort, alloc: Global, words: &str) -> Result<Vec<Beat>, Fail>
         let count = number(digits).expect(rt, "a number");
         let count = u16::try_from(count).expect(rt, "a small number");
         beats.push(match form {
-            b's' => Beat::One(Event::Step(count)),
-            b't' => Beat::One(Event::Timeout(count)),
-            b'n' => Beat::One(Event::Nmi(count)),
-            b'r' => Beat::One(Event::Run(count)),
+            b's' => Beat::Step(count),
+            b't' => Beat::Timeout(count),
+            b'n' => Beat::Nmi(count),
+            b'r' => Beat::Run(count),
             _ => Beat::Rounds(count),
         })?;
     }

@@ -162,19 +162,19 @@ module _ (law : EventLaw) (plan : Plan) (sound : Sound plan) (padded : Padded pl
   beats_patient : (beats : List Beat) → All (λ b. is_in_time b ≡ true) beats →
       (m : Running) → Patient m → Patient (last_moment plan m (events_of plan beats))
   beats_patient [] patient m before = before
-  beats_patient (beat.One (event.Step t) ∷ beats) patient m before =
+  beats_patient (beat.Step t ∷ beats) patient m before =
       one_by m (event.Step t) (events_of plan beats) (is_over plan m) refl before
-      (beats_patient beats (rest_all (beat.One (event.Step t)) beats patient) (happens plan (event.Step t) m).0)
+      (beats_patient beats (rest_all (beat.Step t) beats patient) (happens plan (event.Step t) m).0)
       (λ e. cc)
-  beats_patient (beat.One (event.Nmi t) ∷ beats) patient m before =
+  beats_patient (beat.Nmi t ∷ beats) patient m before =
       one_by m (event.Nmi t) (events_of plan beats) (is_over plan m) refl before
-      (beats_patient beats (rest_all (beat.One (event.Nmi t)) beats patient) (happens plan (event.Nmi t) m).0) (λ e. cc)
-  beats_patient (beat.One (event.Run t) ∷ beats) patient m before =
+      (beats_patient beats (rest_all (beat.Nmi t) beats patient) (happens plan (event.Nmi t) m).0) (λ e. cc)
+  beats_patient (beat.Run t ∷ beats) patient m before =
       one_by m (event.Run t) (events_of plan beats) (is_over plan m) refl before
-      (beats_patient beats (rest_all (beat.One (event.Run t)) beats patient) (happens plan (event.Run t) m).0)
+      (beats_patient beats (rest_all (beat.Run t) beats patient) (happens plan (event.Run t) m).0)
       (run_cause (is_held ((shown_by plan m).place t)))
-  beats_patient (beat.One (event.Timeout t) ∷ beats) patient m before =
-      absurd (true≢false (sym (patient 0 (beat.One (event.Timeout t)) (omega arith))))
+  beats_patient (beat.Timeout t ∷ beats) patient m before =
+      absurd (true≢false (sym (patient 0 (beat.Timeout t) (omega arith))))
   beats_patient (beat.Rounds n ∷ beats) patient m before =
       rounds_patient n (events_of plan beats) (beats_patient beats (rest_all (beat.Rounds n) beats patient)) m before
 

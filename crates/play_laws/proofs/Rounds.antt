@@ -234,13 +234,23 @@ module _ (law : EventLaw) (plan : Plan) (sound : Sound plan) (padded : Padded pl
       (λ fell. rounds_by n k rest later (last_moment plan m (steps_from 0 (plan.threads - 0)))
       (lawful_last m (steps_from 0 (plan.threads - 0)) lawful) (omega arith))
 
+  -- one event, and the beats behind it
+  event_then : (happened : Event) (beats : List Beat) →
+      ((m : Running) → Lawful plan m → all_ranks plan m.locals ≤ rounds_in beats → Over (last_moment plan m (events_of plan beats))) →
+      (m : Running) → Lawful plan m → all_ranks plan m.locals ≤ rounds_in beats →
+      Over (last_moment plan m (happened ∷ events_of plan beats))
+  event_then happened beats later m lawful few =
+      let kept = ranks_kept plan happened m in
+      one_by m happened (events_of plan beats) (is_over plan m) refl
+      (later (happens plan happened m).0 (law plan happened m sound padded lawful).lawful (omega arith))
+
   pub enough_from : (beats : List Beat) (m : Running) →
       Lawful plan m → all_ranks plan m.locals ≤ rounds_in beats → Over (last_moment plan m (events_of plan beats))
   enough_from [] m lawful few = none_left m (is_over plan m) lawful few refl
-  enough_from (beat.One happened ∷ beats) m lawful few =
-      let kept = ranks_kept plan happened m in
-      one_by m happened (events_of plan beats) (is_over plan m) refl
-      (enough_from beats (happens plan happened m).0 (law plan happened m sound padded lawful).lawful (omega arith))
+  enough_from (beat.Step t ∷ beats) m lawful few = event_then (event.Step t) beats (enough_from beats) m lawful few
+  enough_from (beat.Timeout t ∷ beats) m lawful few = event_then (event.Timeout t) beats (enough_from beats) m lawful few
+  enough_from (beat.Nmi t ∷ beats) m lawful few = event_then (event.Nmi t) beats (enough_from beats) m lawful few
+  enough_from (beat.Run t ∷ beats) m lawful few = event_then (event.Run t) beats (enough_from beats) m lawful few
   enough_from (beat.Rounds n ∷ beats) m lawful few =
       rounds_by n (rounds_in beats) (events_of plan beats) (enough_from beats) m lawful few
 

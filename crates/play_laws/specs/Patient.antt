@@ -1,8 +1,7 @@
 -- A run in which no thread runs out of patience.
 use Rattle.std.specs.Prelude.{◌≡◌, ℕ, Bool, true, false, List, Some, All}
-use Rattle.rendezvous_steps.specs.declared.items.Event.TheVariants.{Timeout}
 use Rattle.rendezvous_steps.specs.declared.ends.Beat.{Beat}
-use Rattle.rendezvous_steps.specs.declared.ends.Beat.TheVariants.{One}
+use Rattle.rendezvous_steps.specs.declared.ends.Beat.TheVariants.{Timeout}
 use Rattle.rendezvous_steps.specs.Plan.{Plan, Sound}
 use Rattle.rendezvous_steps.specs.Padded.{Padded}
 use Rattle.rendezvous_steps.specs.Events.{opening_running}
@@ -25,7 +24,7 @@ InTimeIsDone =
 
 -- no timeout stands in a schedule
 abbrev pub is_in_time : Beat → Bool
-is_in_time (One (Timeout t)) = false
+is_in_time (Timeout t) = false
 is_in_time beat = true
 
 -- A schedule without a timeout, with rounds enough, comes to Done where no group refuses.

@@ -2,7 +2,7 @@
 use Rattle.std.specs.Prelude.{◌≡◌, ◌≢◌, ℕ, ◌+◌, ◌*◌, ◌<◌, ◌≤◌, true, false, List, [], ◌∷◌}
 use Rattle.rendezvous_steps.specs.declared.items.Event.TheVariants.{Step}
 use Rattle.rendezvous_steps.specs.declared.ends.Beat.{Beat}
-use Rattle.rendezvous_steps.specs.declared.ends.Beat.TheVariants.{One, Rounds}
+use Rattle.rendezvous_steps.specs.declared.ends.Beat.TheVariants.{Rounds}
 use Rattle.rendezvous_steps.specs.declared.ends.End.TheVariants.{Unfinished}
 use Rattle.rendezvous_steps.specs.Plan.{Plan, Sound}
 use Rattle.rendezvous_steps.specs.Padded.{Padded}
@@ -32,8 +32,8 @@ NeverStuck =
 
 abbrev pub rounds_in : List Beat → ℕ
 rounds_in [] = 0
-rounds_in (One event ∷ beats) = rounds_in beats
 rounds_in (Rounds n ∷ beats) = n + rounds_in beats
+rounds_in (event ∷ beats) = rounds_in beats
 
 abbrev pub IsEnough : Plan → List Beat → Type 0
 IsEnough plan beats = 20 * plan.threads + 8 ≤ rounds_in beats

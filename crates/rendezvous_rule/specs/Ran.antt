@@ -8,7 +8,7 @@ use Rattle.rendezvous_steps.specs.declared.items.Event.{Event}
 use Rattle.rendezvous_steps.specs.declared.items.Event.TheVariants as event
 use Rattle.rendezvous_steps.specs.declared.items.Item.{Item}
 use Rattle.rendezvous_steps.specs.declared.ends.Beat.{Beat}
-use Rattle.rendezvous_steps.specs.declared.ends.Beat.TheVariants.{One, Rounds}
+use Rattle.rendezvous_steps.specs.declared.ends.Beat.TheVariants as beat
 use Rattle.rendezvous_steps.specs.declared.ends.End.{End}
 use Rattle.rendezvous_steps.specs.declared.ends.End.TheVariants as ends
 use Rattle.rendezvous_steps.specs.Plan.{Plan, is_primary, threads_from, online_count, offline_count}
@@ -27,8 +27,11 @@ repeated (suc n) round rest = round ++ repeated n round rest
 
 abbrev pub events_of : Plan → List Beat → List Event
 events_of plan [] = []
-events_of plan (One happened ∷ beats) = happened ∷ events_of plan beats
-events_of plan (Rounds n ∷ beats) = repeated n (map (λ t. event.Step t) (threads_from plan 0)) (events_of plan beats)
+events_of plan (beat.Step t ∷ beats) = event.Step t ∷ events_of plan beats
+events_of plan (beat.Timeout t ∷ beats) = event.Timeout t ∷ events_of plan beats
+events_of plan (beat.Nmi t ∷ beats) = event.Nmi t ∷ events_of plan beats
+events_of plan (beat.Run t ∷ beats) = event.Run t ∷ events_of plan beats
+events_of plan (beat.Rounds n ∷ beats) = repeated n (map (λ t. event.Step t) (threads_from plan 0)) (events_of plan beats)
 
 -- A run that lists its items, each by a line.
 

@@ -2,10 +2,9 @@
 use Rattle.std.specs.Prelude.{◌≡◌, ℕ, ◌<◌, ◌≤◌, Bool, List, slice_index}
 use Rattle.rendezvous_steps.specs.declared.items.Item.{Item}
 use Rattle.rendezvous_steps.specs.declared.ends.Beat.{Beat}
-use Rattle.rendezvous_steps.specs.declared.ends.Beat.TheVariants.{One, Rounds}
+use Rattle.rendezvous_steps.specs.declared.ends.Beat.TheVariants.{Step, Timeout, Nmi, Run, Rounds}
 use Rattle.rendezvous_steps.specs.Plan.{Plan, Sound}
 use Rattle.rendezvous_steps.specs.Padded.{Padded}
-use Rattle.rendezvous_model.specs.RoundStep.{thread_of}
 use Rattle.rendezvous_model.specs.Outcome.{Outcome}
 use Rattle.rendezvous_rule.specs.Ran.{Ran}
 
@@ -17,7 +16,10 @@ pub record RunOf : Type 0 where
 
 -- the event of a beat is one of the first so many threads
 abbrev pub BeatInRange : ℕ → Beat → Type 0
-BeatInRange threads (One happened) = thread_of happened < threads
+BeatInRange threads (Step t) = t < threads
+BeatInRange threads (Timeout t) = t < threads
+BeatInRange threads (Nmi t) = t < threads
+BeatInRange threads (Run t) = t < threads
 BeatInRange threads (Rounds n) = Unit {0}
 
 -- a run of a plan over beats: its text and what it comes to

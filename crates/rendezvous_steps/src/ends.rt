@@ -1,13 +1,18 @@
 //! What a rendezvous is asked, and what it comes to for a thread.
 
-use crate::items::Event;
 use crate::steps::ThreadResult;
 
-/// A part of a schedule.
+/// A part of a schedule: one event of a thread, or rounds. An event is no enum within it, so that a beat takes four bytes.
 #[derive(Clone, Copy, Debug, PartialEq, Eq)]
 pub enum Beat {
-    /// One event.
-    One(Event),
+    /// A step of a thread.
+    Step(u16),
+    /// A step of a thread whose patience is at an end.
+    Timeout(u16),
+    /// An NMI from elsewhere at a thread.
+    Nmi(u16),
+    /// A thread tries to run ordinary code.
+    Run(u16),
     /// So many rounds. A round is one step of each thread in ascending order, of those that take no part too.
     Rounds(u16),
 }

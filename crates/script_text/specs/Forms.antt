@@ -4,8 +4,7 @@ use Rattle.std.specs.Prelude.{ℕ, Bool, ◌&&◌, ◌||◌, false, List, [], �
 use Rattle.std.specs.List.{find, list_all}
 use Rattle.std.specs.Str.{byte, is_utf8}
 use Rattle.rendezvous_steps.specs.declared.ends.Beat.{Beat}
-use Rattle.rendezvous_steps.specs.declared.ends.Beat.TheVariants.{One, Rounds}
-use Rattle.rendezvous_steps.specs.declared.items.Event.TheVariants.{Step, Timeout, Nmi, Run}
+use Rattle.rendezvous_steps.specs.declared.ends.Beat.TheVariants as beat
 use Rattle.uc_text.specs.Lines.{words_of}
 use Rattle.script_text.specs.declared.forms.BeatKind.{BeatKind}
 use Rattle.script_text.specs.declared.forms.BeatKind.TheVariants as kind
@@ -57,11 +56,11 @@ kind_of first =
 
 -- the beat of a kind and a number: an event of a thread, or so many rounds
 abbrev pub beat_with : BeatKind → ℕ → Beat
-beat_with kind.Step number = One (Step number)
-beat_with kind.Timeout number = One (Timeout number)
-beat_with kind.Nmi number = One (Nmi number)
-beat_with kind.Run number = One (Run number)
-beat_with kind.Rounds number = Rounds number
+beat_with kind.Step number = beat.Step number
+beat_with kind.Timeout number = beat.Timeout number
+beat_with kind.Nmi number = beat.Nmi number
+beat_with kind.Run number = beat.Run number
+beat_with kind.Rounds number = beat.Rounds number
 
 -- a word that has the form of a beat, whatever follows its first byte
 abbrev pub is_beat : List ℕ → Bool

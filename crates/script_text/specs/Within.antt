@@ -2,29 +2,24 @@
 use Rattle.std.specs.Prelude.{ℕ, ◌+◌, ◌*◌, ◌^◌, ◌≤◌, Bool, true, ◌&&◌, List, [], ◌∷◌, length, nat_le, nat_lt, ◌≡◌}
 use Rattle.std.specs.List.{list_all}
 use Rattle.rendezvous_steps.specs.declared.ends.Beat.{Beat}
-use Rattle.rendezvous_steps.specs.declared.ends.Beat.TheVariants.{One, Rounds}
-use Rattle.rendezvous_steps.specs.declared.items.Event.{Event}
-use Rattle.rendezvous_steps.specs.declared.items.Event.TheVariants.{Step, Timeout, Nmi, Run}
+use Rattle.rendezvous_steps.specs.declared.ends.Beat.TheVariants as beat
 use Rattle.script_text.specs.declared.command.Command.{Command}
 use Rattle.script_text.specs.declared.command.Command.TheVariants as command
 use Rattle.script_text.specs.declared.forms.Limits.{Limits}
 use Rattle.script_text.specs.Stated.{Stated}
 
-abbrev pub thread_of : Event → ℕ
-thread_of (Step t) = t
-thread_of (Timeout t) = t
-thread_of (Nmi t) = t
-thread_of (Run t) = t
-
 -- an event of a thread that is there, or 1 to 65,535 rounds
 abbrev pub fits_beat : Limits → Beat → Bool
-fits_beat limits (One event) = nat_lt (thread_of event) limits.threads
-fits_beat limits (Rounds k) = nat_le 1 k && nat_lt k (2 ^ 16)
+fits_beat limits (beat.Step t) = nat_lt t limits.threads
+fits_beat limits (beat.Timeout t) = nat_lt t limits.threads
+fits_beat limits (beat.Nmi t) = nat_lt t limits.threads
+fits_beat limits (beat.Run t) = nat_lt t limits.threads
+fits_beat limits (beat.Rounds k) = nat_le 1 k && nat_lt k (2 ^ 16)
 
 -- a round is one event of each thread
 abbrev pub events_of_beat : Limits → Beat → ℕ
-events_of_beat limits (One event) = 1
-events_of_beat limits (Rounds k) = k * limits.threads
+events_of_beat limits (beat.Rounds k) = k * limits.threads
+events_of_beat limits event = 1
 
 abbrev pub events_of : Limits → List Beat → ℕ
 events_of limits [] = 0

@@ -1,7 +1,7 @@
 ghost use Rattle.std.specs.Prelude.{◌≡◌};
 ghost use Rattle.script_text.specs.Forms.{written, forms, kind_of, beat_with};
 
-use rendezvous_steps::{Beat, Event};
+use rendezvous_steps::Beat;
 
 /// Where a line of a script stands.
 #[derive(Clone, Copy, Debug, PartialEq, Eq)]
@@ -152,10 +152,10 @@ impl BeatKind {
         ensures { result ≡ beat_with self number }
     {
         match self {
-            BeatKind::Step => Beat::One(Event::Step(number)),
-            BeatKind::Timeout => Beat::One(Event::Timeout(number)),
-            BeatKind::Nmi => Beat::One(Event::Nmi(number)),
-            BeatKind::Run => Beat::One(Event::Run(number)),
+            BeatKind::Step => Beat::Step(number),
+            BeatKind::Timeout => Beat::Timeout(number),
+            BeatKind::Nmi => Beat::Nmi(number),
+            BeatKind::Run => Beat::Run(number),
             BeatKind::Rounds => Beat::Rounds(number),
         }
     }

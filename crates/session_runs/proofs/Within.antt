@@ -5,8 +5,7 @@ use Rattle.std.proofs.lemmas.Bool.{leb-true, ltb-true, and_parts}
 use Rattle.std.proofs.lemmas.List.Sums.{AllPass-from_list_all}
 use Rattle.rendezvous_rule.specs.Runs.{BeatInRange}
 use Rattle.rendezvous_steps.specs.declared.ends.Beat.{Beat}
-use Rattle.rendezvous_steps.specs.declared.ends.Beat.TheVariants.{One, Rounds}
-use Rattle.rendezvous_steps.specs.declared.items.Event.TheVariants.{Step, Timeout, Nmi, Run}
+use Rattle.rendezvous_steps.specs.declared.ends.Beat.TheVariants.{Step, Timeout, Nmi, Run, Rounds}
 use Rattle.script_text.specs.declared.command.Command.{Command}
 use Rattle.script_text.specs.declared.command.Command.TheVariants as command
 use Rattle.script_text.specs.declared.forms.Limits.{Limits}
@@ -15,10 +14,10 @@ use Rattle.session_steps.specs.State.{Setting, machine_of}
 use Rattle.session_laws.specs.Standing.{InRange}
 
 beat_in_range : (limits : Limits) (beat : Beat) → fits_beat limits beat ≡ true → BeatInRange limits.threads beat
-beat_in_range limits (One (Step t)) fits = ltb-true t limits.threads fits
-beat_in_range limits (One (Timeout t)) fits = ltb-true t limits.threads fits
-beat_in_range limits (One (Nmi t)) fits = ltb-true t limits.threads fits
-beat_in_range limits (One (Run t)) fits = ltb-true t limits.threads fits
+beat_in_range limits (Step t) fits = ltb-true t limits.threads fits
+beat_in_range limits (Timeout t) fits = ltb-true t limits.threads fits
+beat_in_range limits (Nmi t) fits = ltb-true t limits.threads fits
+beat_in_range limits (Run t) fits = ltb-true t limits.threads fits
 beat_in_range limits (Rounds k) fits = tt
 
 -- the names are few, and the events are of threads that are there

@@ -2,12 +2,12 @@
 ghost use Rattle.std.specs.Prelude.{◌≡◌, drop, slice_index, IfOk, OnOk};
 ghost use Rattle.uc_text.specs.Lines.{words_of};
 ghost use Rattle.script_text.specs.Forms.{is_beat};
-ghost use Rattle.script_text.specs.Within.{fits_beat, events_of_beat, thread_of};
+ghost use Rattle.script_text.specs.Within.{fits_beat, events_of_beat};
 ghost use Rattle.uc_script.specs.Schedules.{IsBeatOf, IsNextBeat, IsScheduled, LeavesSchedule, Counted};
 
 use crate::answer::LineAnswer;
 use crate::shorts::first_short;
-use rendezvous_steps::{Beat, Event};
+use rendezvous_steps::Beat;
 use script_text::{BeatKind, Beats, Limits, ScriptCause};
 use uc_bytes::NoMemory;
 use uc_text::{Words, number};
@@ -151,16 +151,9 @@ fn fits(limits: Limits, beat: Beat) -> bool
     ensures { result ≡ fits_beat limits beat }
 {
     match beat {
-        Beat::One(event) => thread_of(event) < limits.threads,
+        Beat::Step(thread) | Beat::Timeout(thread) | Beat::Nmi(thread) | Beat::Run(thread) => thread
+            < limits.threads,
         Beat::Rounds(rounds) => rounds >= 1,
-    }
-}
-
-fn thread_of(event: Event) -> u16
-    ensures { result ≡ thread_of event }
-{
-    match event {
-        Event::Step(t) | Event::Timeout(t) | Event::Nmi(t) | Event::Run(t) => t,
     }
 }
 
@@ -169,7 +162,7 @@ fn events_of(limits: Limits, beat: Beat) -> u64
     ensures { result ≡ events_of_beat limits beat }
 {
     match beat {
-        Beat::One(_) => 1,
         Beat::Rounds(rounds) => u64::from(rounds) * u64::from(limits.threads),
+        _ => 1,
     }
 }

@@ -1,5 +1,5 @@
 use super::*;
-use rendezvous_steps::{Beat, Event};
+use rendezvous_steps::Beat;
 use script_text::{Command, Script, ScriptCause, ScriptFault};
 use std::alloc::{AllocError, Global};
 use std::test::Fail;
@@ -41,10 +41,10 @@ fn a_load_has_names_and_a_schedule(rt: HostRuntime) -> Result<(), Fail> {
         Some("a.bin")
     );
     let schedule = [
-        Beat::One(Event::Step(0)),
-        Beat::One(Event::Timeout(1)),
-        Beat::One(Event::Nmi(0)),
-        Beat::One(Event::Run(1)),
+        Beat::Step(0),
+        Beat::Timeout(1),
+        Beat::Nmi(0),
+        Beat::Run(1),
         Beat::Rounds(65_535),
     ];
     assert_eq!(rt; beats.as_slice(), schedule.as_slice());
