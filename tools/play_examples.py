@@ -1,5 +1,6 @@
 #!/usr/bin/env python3
-"""Plays the sessions of examples/ with a built `ucode`, and compares its texts and statuses with those stated there.
+"""Plays the sessions of examples/ and examples/worked/ with a built `ucode`, and compares its texts and statuses with
+those stated there.
 
     tools/play_examples.py PATH
 
@@ -14,7 +15,8 @@ import re
 import subprocess
 import sys
 
-FOLDER = os.path.join(os.path.dirname(os.path.dirname(os.path.abspath(__file__))), "examples")
+EXAMPLES = os.path.join(os.path.dirname(os.path.dirname(os.path.abspath(__file__))), "examples")
+FOLDERS = (EXAMPLES, os.path.join(EXAMPLES, "worked"))
 COMMAND = re.compile(r"#\s+ucode (play \S+ \S+)(?:\s+status (\d+))?\s*")
 
 
@@ -44,8 +46,8 @@ def fault_of(program, script):
         return "no comment gives its command"
     words, status = command
     try:
-        done = subprocess.run([program, *words], cwd=FOLDER, stdin=subprocess.DEVNULL, stdout=subprocess.PIPE,
-                              timeout=60)
+        done = subprocess.run([program, *words], cwd=os.path.dirname(script), stdin=subprocess.DEVNULL,
+                              stdout=subprocess.PIPE, stderr=subprocess.DEVNULL, timeout=60)
         with open(os.path.splitext(script)[0] + ".txt", "rb") as file:
             wanted = file.read()
     except (OSError, subprocess.TimeoutExpired) as fault:
@@ -59,8 +61,8 @@ def main():
     parser = argparse.ArgumentParser(description="Plays the sessions of examples/ with a built `ucode`, and compares.")
     parser.add_argument("program", metavar="PATH", help="the built program")
     program = os.path.abspath(parser.parse_args().program)
-    scripts = sorted(glob.glob(os.path.join(FOLDER, "*.script")))
-    faults = [(os.path.basename(script), fault) for script in scripts if (fault := fault_of(program, script))]
+    scripts = [script for folder in FOLDERS for script in sorted(glob.glob(os.path.join(folder, "*.script")))]
+    faults = [(os.path.relpath(script, EXAMPLES), fault) for script in scripts if (fault := fault_of(program, script))]
     for name, fault in faults:
         print(f"{name}: {fault}", file=sys.stderr)
     print(f"examples: {len(scripts) - len(faults)} of {len(scripts)} as they should be")
