@@ -94,7 +94,7 @@ just_cached groups cached old new e held = record {
 
 -- ---- a patch that is freed
 
-none_begins : (patch : Option (List ℕ)) → is_some patch ≡ false → patch ≡ None
+pub none_begins : (patch : Option (List ℕ)) → is_some patch ≡ false → patch ≡ None
 none_begins None e = refl
 none_begins (Some bytes) e = absurd cc
 

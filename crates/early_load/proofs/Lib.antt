@@ -3,3 +3,4 @@ mod Freeing
 mod Rising
 mod Putting
 mod Booted
+pub mod Sweeping

@@ -1,7 +1,7 @@
 -- What a cache stands for, and what a region holds beside it.
-use Rattle.std.specs.Prelude.{◌≡◌, ◌≢◌, ℕ, ◌<◌, ◌≤◌, true, List, length, Option, Some, None, slice_index_or}
+use Rattle.std.specs.Prelude.{◌≡◌, ◌≢◌, ℕ, ◌<◌, ◌≤◌, true, List, length, Option, Some, None, slice_index_or, if◌then◌else◌}
 use Rattle.patch_pool.specs.declared.pool.PatchId.{PatchId}
-use Rattle.region_steps.specs.Region.{Patches}
+use Rattle.region_steps.specs.Region.{Patches, take_out}
 use Rattle.machine_steps.specs.Puts.{is_cached, patch_at}
 use Rattle.machine_steps.specs.BringUps as bring_ups
 use Rattle.early_load.specs.declared.cache.PatchCache.{PatchCache}
@@ -37,6 +37,10 @@ IsHeld (Some bytes) = 8 ≤ length bytes
 -- the region holds the patch that each group caches
 abbrev pub AreHeld : ℕ → Patches → (ℕ → Option ℕ) → Type 0
 AreHeld groups patches cached = (g first : ℕ) → g < groups → cached g ≡ Some first → IsHeld (patches first)
+
+-- the patches without the one at a block, unless a group caches it
+abbrev pub swept_at : ℕ → (ℕ → Option ℕ) → Patches → ℕ → Patches
+swept_at groups cached patches block = if is_cached groups cached block then patches else take_out patches block
 
 -- The region holds the patch that each group caches, and no other.
 pub record HoldsJustCached (groups : ℕ) (patches : Patches) (cached : ℕ → Option ℕ) : Type 0 where

@@ -1,11 +1,12 @@
 //! The cache of patches.
 
-ghost use Rattle.std.specs.Prelude.{◌≡◌, ◌<◌, ◌≤◌, Some, length};
+ghost use Rattle.std.specs.Prelude.{◌≡◌, ◌<◌, ◌≤◌, true, Some, length};
+ghost use Rattle.region_steps.specs.Region.{begins_at};
 ghost use Rattle.machine_steps.specs.Hardware.{put};
 ghost use Rattle.machine_steps.specs.Puts.{is_cached, swept};
 ghost use Rattle.patch_pool.specs.Pool.{patches_of, blocks_in};
 
-use crate::patches::{begins_at, free_at};
+use crate::patches::begins_at;
 use arrayvec::ArrayVec;
 use patch_pool::{PatchId, PatchPool};
 
@@ -18,7 +19,7 @@ pub struct PatchCache {
 }
 
 impl PatchCache {
-    ghost use Rattle.early_load.specs.Caches.{first_block, groups_of, cached_of, nothing_cached, place_at, AreHeld, HoldsJustCached};
+    ghost use Rattle.early_load.specs.Caches.{first_block, groups_of, cached_of, nothing_cached, place_at, swept_at, AreHeld, HoldsJustCached};
 
     /// A cache of so many groups, of which none caches a patch.
     pub fn new(groups: u16) -> PatchCache
@@ -80,17 +81,32 @@ impl PatchCache {
     }
 
     /// Frees each patch of the region that no group caches. Where each cached patch is held, the region then holds just
-    /// these.
+    /// these. The blocks are gone through up to the last patch.
     pub fn sweep(&self, pool: &mut PatchPool)
         ensures swept { patches_of pool.new ≡ swept (groups_of self.now) (cached_of self.now) (patches_of pool.old) }
         ensures just_cached { AreHeld (groups_of self.now) (patches_of pool.old) (cached_of self.now) → HoldsJustCached (groups_of self.now) (patches_of pool.new) (cached_of self.now) }
         ensures size { blocks_in pool.new ≡ blocks_in pool.old }
     {
+        let mut left = pool.held();
         for block in 0..pool.blocks() {
-            if self.caches(block) {
-                continue;
+            if left == 0 {
+                return;
             }
-            free_at(pool, block);
+            if pool.holds(PatchId(block)) {
+                left -= 1;
+                self.sweep_at(pool, PatchId(block));
+            }
+        }
+    }
+
+    /// Frees a patch of the region that no group caches.
+    fn sweep_at(&self, pool: &mut PatchPool, id: PatchId)
+        requires { begins_at (patches_of pool.old) id.0 ≡ true }
+        ensures swept { patches_of pool.new ≡ swept_at (groups_of self.now) (cached_of self.now) (patches_of pool.old) id.0 }
+        ensures size { blocks_in pool.new ≡ blocks_in pool.old }
+    {
+        if !self.caches(id.0) {
+            pool.free(id);
         }
     }
 }
