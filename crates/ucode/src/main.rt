@@ -3,17 +3,19 @@
 //! exit status that comes of it.
 #![tactic(auto)]
 
-mod remarks;
-mod words;
-
-use remarks::remark;
+use main_parts::{Speaker, words};
 use std::io;
 use std::process::ExitCode;
 use top_call::after_write;
 use uc_bytes::NoMemory;
 use uc_cli::{Status, run_tool};
 use uc_io::{HostFiles, OutSink};
-use words::words;
+
+/// What the program says of itself.
+const SPEAKER: Speaker<'static> = Speaker {
+    name: "ucode",
+    forms: "ucode list FILE.. | show FILE NUMBER | select TOPOLOGY FILE.. | play TOPOLOGY SCRIPT | gen NUMBER",
+};
 
 fn main(rt: HostRuntime) -> ExitCode {
     let alloc = rt.alloc();
@@ -26,6 +28,6 @@ fn main(rt: HostRuntime) -> ExitCode {
         }
         Err(NoMemory) => Status::NoMemory,
     };
-    remark(&rt.stderr(), status, files.failure());
+    SPEAKER.remark(&rt.stderr(), status, files.failure());
     ExitCode::from(status.code())
 }
