@@ -1,4 +1,4 @@
-mod Causes
+pub mod Causes
 mod Endings
 mod Generating
 mod Groups

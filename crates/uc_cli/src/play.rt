@@ -20,7 +20,7 @@ use uc_io::{Files, Sink};
 use uc_session::run_session;
 
 /// How a run ends whose session answered so: where memory ran out, with the line on that.
-fn end_session<S: Sink>(out: &mut S, answer: SessionAnswer) -> Status
+pub fn end_session<S: Sink>(out: &mut S, answer: SessionAnswer) -> Status
     ensures { IsEnded S.stands S.faults out.old out.new answer result }
 {
     match answer {

@@ -23,7 +23,7 @@ pub enum Command<'a> {
 }
 
 /// Whether a word may stand for the name of a file.
-fn is_name(word: &Text) -> bool
+pub fn is_name(word: &Text) -> bool
     ensures { result ≡ is_name word.now }
 {
     !word.as_str().starts_with('-')
