@@ -196,7 +196,7 @@ impl Moment {
             },
             Event::Timeout(thread) => Item {
                 thread,
-                what: self.act_apart(plan, thread, How::Timeout),
+                what: self.act(plan, thread, How::Timeout),
             },
             Event::Nmi(thread) => Item {
                 thread,
@@ -257,21 +257,9 @@ impl Moment {
         What::Poll
     }
 
-    /// A step of events that are rare. It is kept apart, so that the step of a round is laid into its event alone.
+    /// The thread does its operation. Where it has none, a latched NMI comes through once it has left. It is kept apart from
+    /// the events that lead to it, since its operation stays in registers only where the whole of it is one function.
     #[inline(never)]
-    fn act_apart(&mut self, plan: &Plan, thread: u16, how: How) -> What
-        requires sound { IsSound plan.now }
-        requires fits { Fits (plan_of plan.now) self.old }
-        requires in_range { thread < plan.now.threads }
-        ensures item { result ≡ (steps (plan_of plan.now) thread how (running_of self.old)).1 }
-        ensures state { running_of self.new ≡ (steps (plan_of plan.now) thread how (running_of self.old)).0 }
-        ensures fits { Fits (plan_of plan.now) self.new }
-    {
-        self.act(plan, thread, how)
-    }
-
-    /// The thread does its operation. Where it has none, a latched NMI comes through once it has left.
-    #[inline(always)]
     fn act(&mut self, plan: &Plan, thread: u16, how: How) -> What
         requires sound { IsSound plan.now }
         requires fits { Fits (plan_of plan.now) self.old }
@@ -329,7 +317,7 @@ impl Moment {
         ensures fits { Fits (plan_of plan.now) self.new }
     {
         if self.is_held(plan, thread) {
-            self.act_apart(plan, thread, How::Step)
+            self.act(plan, thread, How::Step)
         } else {
             self.run_outside(plan, thread, plan.kind_of(thread))
         }
@@ -403,7 +391,7 @@ impl Moment {
         ensures fits { Fits (plan_of plan.now) self.new }
     {
         if self.is_outside(thread) {
-            self.act_apart(plan, thread, How::Nmi)
+            self.act(plan, thread, How::Nmi)
         } else if self.is_over(plan, thread) {
             self.ordinary(plan, thread)
         } else {

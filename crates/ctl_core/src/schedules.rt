@@ -133,7 +133,8 @@ fn play_round<S: Sink>(core: &mut Core<'_>, out: &mut S) -> Result<(), SinkFaile
     Ok(())
 }
 
-/// Plays one event, if some thread is unfinished.
+/// Plays one event, if some thread is unfinished. It is laid into its loop, so that a round knows its events for steps.
+#[inline(always)]
 fn play_event<S: Sink>(core: &mut Core<'_>, event: Event, out: &mut S) -> Result<(), SinkFailed>
     requires { thread_of event < (plan_in core.old).threads }
     ensures plays { Plays S.stands S.faults (plan_in core.old) (moment_in core.old) (moment_in core.new) (event ∷ []) out.old out.new result }
