@@ -7,7 +7,7 @@ import tempfile
 
 import page
 
-RUNS = 15
+RUNS = 21
 USED = "rendezvous_steps rendezvous_rule ctl_words ctl_core uc_bytes uc_io uc_text arrayvec"
 PROGRAM = r"""
 //! Plays one of two loads of 256 threads, two in each group, and prints how many lines and bytes came out, what was
@@ -24,6 +24,7 @@ use ctl_core::{Beat, Outcome, Plan, Rendezvous, Scheduled, are_in_range};
 use ctl_words::Kind;
 use std::alloc::Global;
 use std::env::Env;
+use std::io;
 use std::process::ExitCode;
 use uc_bytes::NoMemory;
 use uc_io::{OutSink, Sink, SinkFailed};
@@ -139,7 +140,7 @@ fn is_storm(rt: &HostRuntime) -> bool {
 fn main(rt: HostRuntime) -> ExitCode {
     let (is_storm, number, mut word) = (is_storm(&rt), number_in(&rt, 2), [0; 16]);
     if rt.arg(3, &mut word).is_ok() {
-        let mut out = OutSink::new(rt);
+        let mut out = OutSink::new(io::writer(&rt));
         let played = play(rt.alloc(), is_storm, number, &mut out).is_some();
         return ExitCode::from(if played && out.finish().is_ok() { 0 } else { 1 });
     }
