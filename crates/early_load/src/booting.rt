@@ -1,6 +1,6 @@
 //! A machine is booted.
 
-ghost use Rattle.std.specs.Prelude.{◌≡◌, true, length, MatchResult, IfOk};
+ghost use Rattle.std.specs.Prelude.{◌≡◌, true, IsTrue, length, MatchResult, IfOk};
 ghost use Rattle.region_steps.specs.Region.{no_patches};
 ghost use Rattle.machine_steps.specs.Hardware.{is_off};
 ghost use Rattle.hw_machine.specs.Machine.{setting_of, hardware_of};
@@ -23,8 +23,8 @@ use uc_catalog::Catalog;
 /// Boots a machine that is off: puts what each group is offered, lets the groups cache it, powers on, and brings every
 /// thread up, in ascending order. It answers `Booted` exactly where the machine is not off, and `PoolFull` where an entry
 /// finds no room; all is then as before. Where the machine is off the pool and the cache are empty; the cache has the
-/// machine's groups, and there is one offer, an entry of the catalogue or none, for each. Afterwards the pool holds just the
-/// cached patches.
+/// machine's groups, and there is one offer, an entry of the catalogue or none, for each; the catalogue keeps the files'
+/// bytes. Afterwards the pool holds just the cached patches.
 pub fn boot(
     machine: &mut Machine,
     catalog: &Catalog,
@@ -35,6 +35,7 @@ pub fn boot(
     requires groups { groups_of cache.old ≡ (setting_of machine.old).groups }
     requires offers { length offers.now ≡ (setting_of machine.old).groups }
     requires known { AreEntries catalog.now offers.now }
+    requires keeps { IsTrue catalog.now.keeps }
     requires empty { is_off (hardware_of machine.old).power ≡ true → patches_of pool.old ≡ no_patches }
     requires none_cached { is_off (hardware_of machine.old).power ≡ true → cached_of cache.old ≡ nothing_cached }
     ensures answer { let old : State = record { hardware = hardware_of machine.old; patches = patches_of pool.old; cached = cached_of cache.old } in

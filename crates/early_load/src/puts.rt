@@ -1,6 +1,6 @@
 //! Offered entries are put into a region.
 
-ghost use Rattle.std.specs.Prelude.{◌≡◌, ℕ, ◌<◌, ◌≤◌, length, None, Some, Err, MatchOption, IfOk, IfErr};
+ghost use Rattle.std.specs.Prelude.{◌≡◌, ℕ, ◌<◌, ◌≤◌, IsTrue, length, None, Some, Err, MatchOption, IfOk, IfErr};
 ghost use Rattle.region_steps.specs.Region.{Stands};
 ghost use Rattle.patch_pool.specs.Pool.{patches_of, blocks_in};
 ghost use Rattle.patch_pool.specs.Steps.{IsPut};
@@ -14,8 +14,8 @@ use uc_catalog::Catalog;
 
 /// Puts the entry that each group is offered, in the order of the groups, and each entry once: groups with the same offer
 /// share its patch. Tells for each group the patch of its offer; where these are freed, the pool is as before. There are at
-/// most 256 groups, and each offer is an entry of the catalogue. At the first entry for which no run of blocks is long
-/// enough the pool is full; what was put in this call is then freed again.
+/// most 256 groups, and each offer is an entry of the catalogue, which keeps the files' bytes. At the first entry for which
+/// no run of blocks is long enough the pool is full; what was put in this call is then freed again.
 pub fn put_offers(
     catalog: &Catalog,
     offers: &[Option<u32>],
@@ -23,6 +23,7 @@ pub fn put_offers(
 ) -> Result<ArrayVec<Option<PatchId>, 256>, PoolFull>
     requires few { length offers.now ≤ 256 }
     requires known { AreEntries catalog.now offers.now }
+    requires keeps { IsTrue catalog.now.keeps }
     ensures put { IfOk result (λ places. ArePut (puts_of (blocks_in pool.old) catalog.now offers.now (patches_of pool.old)) offers.now (patches_of pool.new) places.items) }
     ensures held { IfOk result (λ places. (g first : ℕ) → place_at places.items g ≡ Some first → IsHeld (patches_of pool.new first)) }
     ensures others { IfOk result (λ places. (block : ℕ) → IsElsewhere places.items block → patches_of pool.new block ≡ patches_of pool.old block) }
@@ -72,7 +73,8 @@ fn first_offer(entry: u32, offers: &[Option<u32>], groups: usize) -> Option<usiz
 
 /// Puts an entry of a catalogue. One that takes more blocks than the region has finds no room.
 fn put_entry(catalog: &Catalog, entry: u32, pool: &mut PatchPool) -> Result<PatchId, PoolFull>
-    requires { entry < length catalog.now.entries }
+    requires entry { entry < length catalog.now.entries }
+    requires keeps { IsTrue catalog.now.keeps }
     ensures put { IsPut (patches_of pool.old) (patches_of pool.new) (blocks_in pool.old) (bytes_at catalog.now entry) result }
     ensures header { 48 ≤ length (bytes_at catalog.now entry) }
     ensures stand { Stands (patches_of pool.old) (blocks_in pool.old) }

@@ -28,7 +28,7 @@ fn update(alloc: Global, rev: u32, checksum: u32) -> Result<Vec<u8>, AllocError>
 
 /// How many blocks in a row an entry wants that does not fit; none where it fits, or there is no such entry.
 fn blocks_wanted(catalog: &Catalog, entry: u32, pool: &mut PatchPool) -> Option<u32> {
-    if entry >= catalog.len() {
+    if entry >= catalog.len() || !catalog.keeps_bytes() {
         return None;
     }
     match put_offers(catalog, &[Some(entry)], pool) {
@@ -58,7 +58,12 @@ fn the_first_thread_of_a_group_writes_again_after_a_resume(rt: HostRuntime) -> R
     let Ok(mut pool) = PatchPool::new(alloc, 3) else {
         return Err(Fail::from("no pool"));
     };
-    assert!(rt; machine.groups() == 1 && machine.threads() == 2 && catalog.len() == 2);
+    assert!(rt;
+        machine.groups() == 1
+            && machine.threads() == 2
+            && catalog.len() == 2
+            && catalog.keeps_bytes()
+    );
     let wrote = BringUp {
         thread: 0,
         rev: 0xf0,

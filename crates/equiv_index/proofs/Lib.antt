@@ -1,2 +1,5 @@
 mod FirstRows
+mod Marks
+mod Numbers
+mod Served
 mod Sorted

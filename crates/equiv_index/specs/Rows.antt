@@ -1,5 +1,6 @@
 -- The rows of an equivalence table, in their order.
-use Rattle.std.specs.Prelude.{ℕ, ◌+◌, ◌==◌, Bool, false, Option, Some, None, if◌then◌else◌, List, [], ◌∷◌, map, filter}
+use Rattle.std.specs.Prelude.{ℕ, ◌+◌, ◌==◌, Bool, false, Option, Some, None, if◌then◌else◌, List, [], ◌∷◌, length, map, filter}
+use Rattle.std.specs.List.{range_with_len}
 use Rattle.file_entries.specs.Entry.{first_rows}
 use Rattle.equiv_index.specs.declared.row.Row.{Row}
 
@@ -8,6 +9,14 @@ abbrev pub numbered : ℕ → List (ℕ × ℕ) → List Row
 numbered number [] = []
 numbered number (row ∷ rows) =
     record { sig = row.0; number = number; id = row.1 } ∷ numbered (number + 1) rows
+
+-- the signature and id of the row with a number, and those of all rows in the order of their numbers
+abbrev pub numbered_in : List Row → ℕ → ℕ × ℕ
+numbered_in [] number = (0, 0)
+numbered_in (row ∷ rows) number = if row.number == number then (row.sig, row.id) else numbered_in rows number
+
+abbrev pub rows_in : List Row → List (ℕ × ℕ)
+rows_in rows = map (numbered_in rows) (range_with_len 0 (length rows))
 
 -- the first row with a signature
 abbrev pub first_with : List Row → ℕ → Option Row

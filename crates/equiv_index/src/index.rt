@@ -1,42 +1,51 @@
-ghost use Rattle.std.specs.Prelude.{◌≡◌, ℕ, List, ◌^◌, ◌<◌, length, IfOk, IsOk, slice_get};
+ghost use Rattle.std.specs.Prelude.{◌≡◌, ℕ, ◌^◌, ◌<◌, ◌↔◌, IsTrue, All, length, IfOk, slice_get};
 ghost use Rattle.std.specs.List.Sorted.{IsNonDecreasingBy};
-ghost use Rattle.amd_format.specs.Equiv.{rows_of, id_of};
+ghost use Rattle.amd_format.specs.Equiv.{id_of};
 ghost use Rattle.file_entries.specs.Entry.{first_rows};
-ghost use Rattle.equiv_index.specs.Rows.{numbered, first_with, is_numbered, served_by};
-ghost use Rattle.equiv_index.specs.Index.{IsBySig, IsById};
+ghost use Rattle.equiv_index.specs.Rows.{numbered, served_by};
+ghost use Rattle.equiv_index.specs.Index.{IsBySig, IsById, BeginsRun, AreMarks};
 
 use crate::row::Row;
 use crate::search::{first_with, nth_with};
-use amd_equiv::EquivTable;
 use std::alloc::{AllocError, Global};
+use std::marker::Model;
 use uc_bytes::NoMemory;
 
-/// An index of a table's rows.
+/// An index of a table's rows. A contract sees the rows, signatures and ids, in the order of the table.
 #[derive(Debug, Drop)]
 pub struct RowIndex {
     /// All rows, sorted by signature; those of one signature are in the order of the table.
     by_sig: Vec<Row>,
     /// The first row of each signature, sorted by id; those of one id are in the order of the table.
     by_id: Vec<(u32, u16)>,
-    ghost rises_by_sig: { IsNonDecreasingBy (λ row. row.sig) by_sig.items },
-    ghost rises_by_id: { IsNonDecreasingBy (λ row. row.1) by_id.items },
+}
+
+impl Model for RowIndex {
+    ghost use Rattle.std.specs.Prelude.{ℕ, List};
+    ghost use Rattle.equiv_index.specs.Rows.{rows_in};
+    ghost use Rattle.equiv_index.specs.Indexed.{IsIndexOf};
+
+    ghost Value = { List (ℕ × ℕ) };
+
+    ghost view = { λ index. rows_in index.by_sig.items };
+
+    ghost invariant = { λ index. IsIndexOf (rows_in index.by_sig.items) index.by_sig.items index.by_id.items };
 }
 
 impl RowIndex {
-    ghost use Rattle.equiv_index.specs.Indexed.{IsIndexOf};
-
-    /// The index of a table, in the time of a sort of its rows.
-    pub fn new(alloc: Global, table: &EquivTable<'_>) -> Result<RowIndex, NoMemory>
-        ensures { IfOk result (λ index. IsIndexOf (rows_of table.now) index) }
+    /// The index of the rows of a table, signatures and ids: a sort by signature, and one of the first rows by id.
+    pub fn new(alloc: Global, rows: &[(u32, u16)]) -> Result<RowIndex, NoMemory>
+        requires { length rows.now < 2 ^ 32 }
+        ensures { IfOk result (λ index. index ≡ rows.now) }
     {
-        let by_sig = rows_by_sig(alloc, table)?;
-        let by_id = rows_by_id(alloc, table, by_sig.as_slice())?;
+        let by_sig = rows_by_sig(alloc, rows)?;
+        let by_id = rows_by_id(alloc, rows, by_sig.as_slice())?;
         Ok(RowIndex { by_sig, by_id })
     }
 
     /// The id in the first row with a processor's signature, or 0, which means none, where no row has it.
     pub fn id_of(&self, sig: u32) -> u16
-        ensures { (rows : List (ℕ × ℕ)) → IsIndexOf rows self.now → result ≡ id_of rows sig }
+        ensures { result ≡ id_of self.now sig }
     {
         match first_with(self.by_sig.as_slice(), sig) {
             Some(row) => row.id,
@@ -46,76 +55,93 @@ impl RowIndex {
 
     /// The k-th signature, in the order of the table, whose first row has the id.
     pub fn served(&self, id: u16, k: u32) -> Option<u32>
-        ensures { (rows : List (ℕ × ℕ)) → IsIndexOf rows self.now → result ≡ slice_get (served_by rows id) k }
+        ensures value { result ≡ slice_get (served_by self.now id) k }
+        ensures few { length (served_by self.now id) < 2 ^ 32 }
     {
         nth_with(self.by_id.as_slice(), id, k)
     }
 }
 
 /// The rows of a table with their numbers.
-fn numbered_rows(alloc: Global, table: &EquivTable<'_>) -> Result<Vec<Row>, AllocError>
-    ensures rows { IfOk result (λ rows. rows.items ≡ numbered 0 (rows_of table.now)) }
-    ensures few { IsOk result → length (rows_of table.now) < 2 ^ 32 }
+fn numbered_rows(alloc: Global, rows: &[(u32, u16)]) -> Result<Vec<Row>, AllocError>
+    requires { length rows.now < 2 ^ 32 }
+    ensures { IfOk result (λ numbered_rows. numbered_rows.items ≡ numbered 0 rows.now) }
 {
-    let mut rows = Vec::new(alloc);
-    rows.reserve(table.rows() as usize)?;
-    for number in 0..table.rows() {
-        let (sig, id) = table.row(number);
-        rows.push(Row { sig, number, id })?;
+    let mut numbered = Vec::new(alloc);
+    numbered.reserve(rows.len())?;
+    'rows: for number in 0..rows.len() {
+        let (sig, id) = rows[number];
+        numbered.push(Row {
+            sig,
+            number: number as u32,
+            id,
+        })?;
     }
-    Ok(rows)
+    Ok(numbered)
 }
 
 /// The rows of a table sorted by signature.
-fn rows_by_sig(alloc: Global, table: &EquivTable<'_>) -> Result<Vec<Row>, AllocError>
-    ensures sorted { IfOk result (λ rows. IsBySig (rows_of table.now) rows.items) }
-    ensures few { IsOk result → length (rows_of table.now) < 2 ^ 32 }
+fn rows_by_sig(alloc: Global, rows: &[(u32, u16)]) -> Result<Vec<Row>, AllocError>
+    requires { length rows.now < 2 ^ 32 }
+    ensures { IfOk result (λ sorted. IsBySig rows.now sorted.items) }
 {
-    let mut rows = numbered_rows(alloc, table)?;
-    rows.sort_by_key(|row| row.sig)?;
-    Ok(rows)
+    let mut sorted = numbered_rows(alloc, rows)?;
+    sorted.sort_by_key(|row| row.sig)?;
+    Ok(sorted)
 }
 
-/// Whether the first row with a signature has this number.
-fn is_first(by_sig: &[Row], sig: u32, number: u32) -> bool
-    requires { IsNonDecreasingBy (λ row. row.sig) by_sig.now }
-    ensures { result ≡ is_numbered (first_with by_sig.now sig) number }
+/// Whether no row of the same signature stands directly before this one.
+fn begins_run(by_sig: &[Row], at: usize) -> bool
+    requires { at < length by_sig.now }
+    ensures { IsTrue result ↔ BeginsRun by_sig.now at }
 {
-    match first_with(by_sig, sig) {
-        Some(row) => row.number == number,
-        None => false,
+    at == 0 || by_sig[at - 1].sig != by_sig[at].sig
+}
+
+/// Marks by its number each row that is the first with its signature, in one pass over the sorted rows.
+fn first_marks(alloc: Global, by_sig: &[Row]) -> Result<Vec<bool>, AllocError>
+    requires sorted { IsNonDecreasingBy (λ row. row.sig) by_sig.now }
+    requires numbers { All (λ row. row.number < length by_sig.now) by_sig.now }
+    ensures { IfOk result (λ marks. AreMarks by_sig.now marks.items) }
+{
+    let mut marks = vec![in alloc; false; by_sig.len()]?;
+    'rows: for at in 0..by_sig.len() {
+        if begins_run(by_sig, at) {
+            marks[by_sig[at].number as usize] = true;
+        }
     }
+    Ok(marks)
 }
 
 /// The first row of each signature, in the order of the table.
 fn first_rows(
     alloc: Global,
-    table: &EquivTable<'_>,
+    rows: &[(u32, u16)],
     by_sig: &[Row],
 ) -> Result<Vec<(u32, u16)>, AllocError>
-    requires { IsBySig (rows_of table.now) by_sig.now }
-    ensures { IfOk result (λ rows. rows.items ≡ first_rows (rows_of table.now)) }
+    requires { IsBySig rows.now by_sig.now }
+    ensures { IfOk result (λ firsts. firsts.items ≡ first_rows rows.now) }
 {
-    let mut rows = Vec::new(alloc);
-    for number in 0..table.rows() {
-        let row = table.row(number);
-        if is_first(by_sig, row.0, number) {
-            rows.push(row)?;
+    let marks = first_marks(alloc, by_sig)?;
+    let mut firsts = Vec::new(alloc);
+    'rows: for number in 0..rows.len() {
+        if marks[number] {
+            firsts.push(rows[number])?;
         }
     }
-    Ok(rows)
+    Ok(firsts)
 }
 
 /// These sorted by id.
 fn rows_by_id(
     alloc: Global,
-    table: &EquivTable<'_>,
+    rows: &[(u32, u16)],
     by_sig: &[Row],
 ) -> Result<Vec<(u32, u16)>, AllocError>
-    requires { IsBySig (rows_of table.now) by_sig.now }
-    ensures { IfOk result (λ rows. IsById (rows_of table.now) rows.items) }
+    requires { IsBySig rows.now by_sig.now }
+    ensures { IfOk result (λ sorted. IsById rows.now sorted.items) }
 {
-    let mut rows = first_rows(alloc, table, by_sig)?;
-    rows.sort_by_key(|row| row.1)?;
-    Ok(rows)
+    let mut firsts = first_rows(alloc, rows, by_sig)?;
+    firsts.sort_by_key(|row| row.1)?;
+    Ok(firsts)
 }

@@ -1,6 +1,6 @@
 //! A machine is booted.
 
-ghost use Rattle.std.specs.Prelude.{◌≡◌, length, MatchResult};
+ghost use Rattle.std.specs.Prelude.{◌≡◌, IsTrue, length, MatchResult};
 ghost use Rattle.uc_topology.specs.Stated.{group_count};
 ghost use Rattle.early_load.specs.Puts.{AreEntries};
 ghost use Rattle.session_laws.specs.Standing.{Standing};
@@ -24,6 +24,7 @@ impl Parts {
         requires standing { Standing (setting_of self.old) (state_of self.old) }
         requires offers { length offers.now ≡ group_count (setting_of self.old).machine.stated.cores }
         requires known { AreEntries catalog.now offers.now }
+        requires keeps { IsTrue catalog.now.keeps }
         ensures answer { MatchResult result (λ ups. IsBooted (setting_of self.old) catalog.now.entries offers.now (state_of self.old) (state_of self.new) ups.items) (λ answer. IsRefused (setting_of self.old) catalog.now.entries offers.now (state_of self.old) answer × (state_of self.new ≡ state_of self.old)) }
         ensures setting { setting_of self.new ≡ setting_of self.old }
     {

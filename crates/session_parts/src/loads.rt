@@ -1,6 +1,6 @@
 //! What a load puts into the region, and what it leaves.
 
-ghost use Rattle.std.specs.Prelude.{◌≡◌, ℕ, ◌<◌, ◌≤◌, true, List, Option, length, slice_index, IfOk, IfErr, Err};
+ghost use Rattle.std.specs.Prelude.{◌≡◌, ℕ, ◌<◌, ◌≤◌, true, IsTrue, List, Option, length, slice_index, IfOk, IfErr, Err};
 ghost use Rattle.uc_topology.specs.Stated.{group_count};
 ghost use Rattle.file_entries.specs.Entry.{Entry};
 ghost use Rattle.rendezvous_model.specs.Outcome.{Outcome};
@@ -35,6 +35,7 @@ impl Parts {
     ) -> Result<ArrayVec<Option<PatchId>, 256>, PoolFull>
         requires offers { length offers.now ≡ group_count (setting_of self.old).machine.stated.cores }
         requires known { AreEntries catalog.now offers.now }
+        requires keeps { IsTrue catalog.now.keeps }
         ensures put { IfOk result (λ places. IsPut (setting_of self.old) catalog.now.entries offers.now (state_of self.old) (state_of self.new) places.items) }
         ensures full { IfErr result (λ full. (puts_of (setting_of self.old) (state_of self.old) catalog.now.entries offers.now ≡ Err full.needed) × (state_of self.new ≡ state_of self.old)) }
         ensures setting { setting_of self.new ≡ setting_of self.old }

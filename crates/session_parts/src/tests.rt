@@ -52,7 +52,7 @@ fn booted(alloc: Global, topology: &Topology, catalog: &Catalog, blocks: u32) ->
         return Err(Fail::from("no memory"));
     };
     let offers = parts.boot_offers(catalog);
-    if parts.boot(catalog, offers.as_slice()).is_err() {
+    if !catalog.keeps_bytes() || parts.boot(catalog, offers.as_slice()).is_err() {
         return Err(Fail::from("no boot"));
     }
     Ok(parts)
@@ -79,6 +79,9 @@ fn load(
     catalog: &Catalog,
     revs: &[u32],
 ) -> Option<(ArrayVec<Option<u32>, 256>, Plan)> {
+    if !catalog.keeps_bytes() {
+        return None;
+    }
     let offers = parts.load_offers(catalog, false);
     let Ok(places) = parts.put_load(catalog, offers.as_slice()) else {
         return None;

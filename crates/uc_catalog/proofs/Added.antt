@@ -1,105 +1,97 @@
--- A file's places behind those of other files.
-use Rattle.std.proofs.Common.{◌≡◌, ℕ, ◌+◌, ◌<◌, List, [], ◌∷◌, ◌++◌, length, get_or, map, refl, sym, ◌∙◌, ap, subst, arith, append_assoc, length-append, Err}
+-- A file behind those that stand.
+use Rattle.std.proofs.Common.{◌≡◌, ℕ, ◌+◌, ◌<◌, ◌≤◌, Bool, true, false, List, [], ◌∷◌, ◌++◌, length, map, refl, sym, ◌∙◌, ap, subst, arith, length-append}
 use Rattle.std.specs.Prelude.{All}
-use Rattle.std.proofs.lemmas.List.{append-nil, map-append, get_or_append_left, get_or_push}
-use Rattle.std.proofs.lemmas.List.Elements.{All-head, All-tail, All-append, All-weaker}
-use Rattle.uc_bytes.specs.declared.causes.FileAnswer.{FileAnswer}
-use Rattle.uc_bytes.specs.declared.causes.FileAnswer.TheVariants.{Fault, NoMemory}
-use Rattle.file_entries.specs.Reading.{Reading, IsReading}
-use Rattle.file_entries.specs.Entry.{Entry, AreReadings, entries_of, entries_from}
-use Rattle.uc_catalog.specs.declared.place.Place.{Place}
-use Rattle.uc_catalog.specs.Contents.{Adds}
-use Rattle.uc_catalog.specs.Places.{IsPlaceIn, IsPlaceAmong, entry_in, entry_among, contents_of, ArePlaces, ArePlacesOf, IsPlaced}
+use Rattle.std.proofs.lemmas.Bool.{false≢true}
+use Rattle.std.proofs.lemmas.Bool.Decides.{nat_tests}
+use Rattle.std.proofs.lemmas.List.{length-map, map_push, append-nil}
+use Rattle.std.proofs.lemmas.List.Elements.{All-nil, All-cons, All-append}
+use Rattle.uc_bytes.specs.declared.causes.Vendor.TheVariants.{Intel, Amd}
+use Rattle.intel_format.specs.File.{FileUpdate, IntelFile}
+use Rattle.amd_format.specs.File.{FileContainer, AmdFile, patches_in}
+use Rattle.file_entries.specs.Reading.{Reading, OfIntel, OfAmd, IsAmd, IsReading}
+use Rattle.file_entries.specs.Entry.{Entry, entries_of}
+use Rattle.uc_catalog.specs.declared.file.FileRows.{FileRows}
+use Rattle.uc_catalog.specs.declared.file.FileRows.TheVariants.{Updates, Patches}
+use Rattle.uc_catalog.specs.declared.file.KeptFile.{KeptFile}
+use Rattle.uc_catalog.specs.declared.updates.UpdateRow.{UpdateRow}
+use Rattle.uc_catalog.specs.declared.updates.UpdateRows.{UpdateRows}
+use Rattle.uc_catalog.specs.declared.patches.PatchRow.{PatchRow}
+use Rattle.uc_catalog.specs.declared.patches.PatchRows.{PatchRows}
+use Rattle.uc_catalog.specs.Contents.{FileSum, Contents, sum_of, kept, kept_bytes, Adds}
+use Rattle.uc_catalog.specs.UpdateRows.{entry_of_update, AreUpdateRows}
+use Rattle.uc_catalog.specs.PatchRows.{entry_of_patch, ArePatchRows}
+use Rattle.uc_catalog.specs.Files.{is_amd, sum_of_rows, entries_of_rows, entries_of_file, entries_in, contents_of, StandRows, AreKept, AreRowsOf}
+use Rattle.uc_catalog.proofs.IntelRows.{updates_entered, updates_stand, many_rows as many_updates}
+use Rattle.uc_catalog.proofs.AmdRows.{containers_entered, patches_stand, many_rows as many_patches}
+use Rattle.uc_catalog.proofs.Located.{entries_append}
 
--- a refusal leaves the places as they were
-pub unchanged : (number : ℕ) (file : List ℕ) (old new : List Place) (answer : FileAnswer) → IsPlaced number file old new (Err answer) → new ≡ old
-unchanged number file old new (Fault fault) is = is.1
-unchanged number file old new NoMemory is = is
+-- the test says where a container's magic begins a file
+pub magic_stands : (file : List ℕ) → is_amd file ≡ true → IsAmd file
+magic_stands file is = (grind (arith, nat_tests), grind (arith, nat_tests))
 
--- one more file with its reading
-are_readings : (files : List (List ℕ)) (readings : List Reading) (bytes : List ℕ) (reading : Reading) → AreReadings files readings → IsReading bytes reading → AreReadings (files ++ bytes ∷ []) (readings ++ reading ∷ [])
-are_readings [] [] bytes reading are is = (is, tt)
-are_readings [] (r ∷ rs) bytes reading are is = absurd are
-are_readings (f ∷ fs) [] bytes reading are is = absurd are
-are_readings (f ∷ fs) (r ∷ rs) bytes reading are is = (are.0, are_readings fs rs bytes reading are.1 is)
+magic_shows : (file : List ℕ) → IsAmd file → is_amd file ≡ true
+magic_shows file amd = grind (arith, nat_tests)
 
--- each file has one reading
-as_many : (files : List (List ℕ)) (readings : List Reading) → AreReadings files readings → length readings ≡ length files
-as_many [] [] are = refl
-as_many [] (r ∷ rs) are = absurd are
-as_many (f ∷ fs) [] are = absurd are
-as_many (f ∷ fs) (r ∷ rs) are = omega (arith, as_many fs rs are.1)
+pub no_magic : (file : List ℕ) → is_amd file ≡ false → IsAmd file → ⊥
+no_magic file is amd = absurd (false≢true (sym is ∙ magic_shows file amd))
 
--- the entries of one more file stand behind the others, by its number
-entries_push : (file : ℕ) (readings : List Reading) (reading : Reading) → entries_from file (readings ++ reading ∷ []) ≡ entries_from file readings ++ entries_of (file + length readings) reading
-entries_push file [] reading =
-    append-nil (entries_of file reading) ∙ ap (λ (n : ℕ). entries_of n reading) (omega arith)
-entries_push file (r ∷ rs) reading =
-    ap (λ (l : List Entry). entries_of file r ++ l) (entries_push (file + 1) rs reading) ∙ sym (append_assoc (entries_of file r) (entries_from (file + 1) rs) (entries_of (file + 1 + length rs) reading))
-    ∙ ap (λ (n : ℕ). (entries_of file r ++ entries_from (file + 1) rs) ++ entries_of n reading) (omega arith)
+-- the rows of a file's updates: their sum, their entries, and that they stand
+module _ (keeps : Bool) (file : List ℕ) (number : ℕ) where
+  entered_updates : (us : List FileUpdate) (rows : UpdateRows) → IntelFile file us → AreUpdateRows us rows → entries_of_rows number (kept_bytes keeps file) (Updates rows) ≡ map (kept keeps) (entries_of number (OfIntel us))
+  entered_updates us rows is are =
+      ap (λ (l : List UpdateRow). map (entry_of_update number (kept_bytes keeps file) rows.pairs.items) l) are.rows
+      ∙ updates_entered number keeps file rows.pairs.items [] [] us 0 0 is.whole refl are.pairs refl
 
-module _ (files : List (List ℕ)) (bytes : List ℕ) where
-  -- an old place is in the file that it was in
-  same_file : (place : Place) → place.file < length files → get_or (files ++ bytes ∷ []) place.file [] ≡ get_or files place.file []
-  same_file place within = get_or_append_left files (bytes ∷ []) [] place.file within
+  entered_patches : (cs : List FileContainer) (rows : PatchRows) → AmdFile file cs → ArePatchRows cs rows → entries_of_rows number (kept_bytes keeps file) (Patches rows) ≡ map (kept keeps) (entries_of number (OfAmd cs))
+  entered_patches cs rows is are =
+      ap (λ (l : List PatchRow). map (entry_of_patch number (kept_bytes keeps file) rows.tables.items) l) are.rows
+      ∙ containers_entered number keeps file rows.tables.items [] cs 0 0 [] is.whole refl is.each are.tables refl
 
-  -- the old places stand for the same entries
-  old_entries : (places : List Place) → All (IsPlaceAmong files) places → map (entry_among (files ++ bytes ∷ [])) places ≡ map (entry_among files) places
-  old_entries [] placed = refl
-  old_entries (p ∷ ps) placed =
-      ap (λ (e : Entry). e ∷ map (entry_among (files ++ bytes ∷ [])) ps) (ap (λ (file : List ℕ). entry_in file p) (same_file p (All-head (IsPlaceAmong files) p ps placed).file))
-      ∙ ap (λ (es : List Entry). entry_among files p ∷ es) (old_entries ps (All-tail (IsPlaceAmong files) p ps placed))
+  entered : (reading : Reading) (rows : FileRows) → IsReading file reading → AreRowsOf reading rows → entries_of_rows number (kept_bytes keeps file) rows ≡ map (kept keeps) (entries_of number reading)
+  entered (OfIntel us) (Updates rows) is are = entered_updates us rows is.1 are
+  entered (OfAmd cs) (Patches rows) is are = entered_patches cs rows is.1 are
+  entered (OfIntel us) (Patches rows) is are = absurd are
+  entered (OfAmd cs) (Updates rows) is are = absurd are
 
-  -- a place of that number is in the new file
-  new_file : (place : Place) → place.file ≡ length files → get_or (files ++ bytes ∷ []) place.file [] ≡ bytes
-  new_file place is = get_or_push files bytes [] place.file (sym is)
+summed : (reading : Reading) (rows : FileRows) → AreRowsOf reading rows → sum_of_rows rows ≡ sum_of reading
+summed (OfIntel us) (Updates rows) are =
+    let many : length rows.rows.items ≡ length us = ap (λ (l : List UpdateRow). length l) are.rows ∙ many_updates 0 0 us in
+    λ i. record { vendor = Intel; entries = many i }
+summed (OfAmd cs) (Patches rows) are =
+    let many : length rows.rows.items ≡ patches_in cs = ap (λ (l : List PatchRow). length l) are.rows ∙ many_patches 0 0 cs in
+    λ i. record { vendor = Amd; entries = many i }
+summed (OfIntel us) (Patches rows) are = absurd are
+summed (OfAmd cs) (Updates rows) are = absurd are
 
-  -- the new places stand for entries of the new file
-  new_entries : (places : List Place) → All (λ (p : Place). p.file ≡ length files) places → map (entry_among (files ++ bytes ∷ [])) places ≡ map (entry_in bytes) places
-  new_entries [] numbered = refl
-  new_entries (p ∷ ps) numbered =
-      ap (λ (e : Entry). e ∷ map (entry_among (files ++ bytes ∷ [])) ps) (ap (λ (file : List ℕ). entry_in file p) (new_file p (All-head (λ (q : Place). q.file ≡ length files) p ps numbered)))
-      ∙ ap (λ (es : List Entry). entry_in bytes p ∷ es) (new_entries ps (All-tail (λ (q : Place). q.file ≡ length files) p ps numbered))
+rows_stand : (keeps : Bool) (file : List ℕ) (reading : Reading) (rows : FileRows) → length file ≤ 67108864 → IsReading file reading → AreRowsOf reading rows → StandRows keeps (kept_bytes keeps file) rows
+rows_stand keeps file (OfIntel us) (Updates rows) short is are = updates_stand keeps file us rows short is.1 are
+rows_stand keeps file (OfAmd cs) (Patches rows) short is are = patches_stand keeps file cs rows is.1 are
+rows_stand keeps file (OfIntel us) (Patches rows) short is are = absurd are
+rows_stand keeps file (OfAmd cs) (Updates rows) short is are = absurd are
 
-  -- an old place is still one
-  old_placed : (place : Place) → IsPlaceAmong files place → IsPlaceAmong (files ++ bytes ∷ []) place
-  old_placed place placed = record {
-    file = omega (arith, placed.file, length-append files (bytes ∷ []));
-    there = subst (λ (file : List ℕ). IsPlaceIn file place) (sym (same_file place placed.file)) placed.there;
+-- what was pushed
+module _ (keeps : Bool) (files new : List KeptFile) (pushed : KeptFile) (file : List ℕ) (read : (reading : Reading) × IsReading file reading × AreRowsOf reading pushed.rows) (bytes : pushed.bytes.items ≡ kept_bytes keeps file) (behind : new ≡ files ++ pushed ∷ []) where
+  pub adds : Adds (contents_of keeps files) (contents_of keeps new) file
+  adds =
+      let number = length (contents_of keeps files).files in
+      let many = length-map files (λ (f : KeptFile). sum_of_rows f.rows) in
+      let count : 0 + length files ≡ number = omega (arith, many) in
+      record {
+        reading = read.0;
+        is_reading = read.1;
+        keeps = refl;
+        files = ap (λ (l : List KeptFile). map (λ (f : KeptFile). sum_of_rows f.rows) l) behind ∙ map_push (λ (f : KeptFile). sum_of_rows f.rows) files pushed
+            ∙ ap (λ (s : FileSum). (contents_of keeps files).files ++ s ∷ []) (summed read.0 pushed.rows read.2);
+        entries = ap (λ (l : List KeptFile). entries_in 0 l) behind ∙ entries_append 0 files (pushed ∷ [])
+            ∙ ap (λ (l : List Entry). entries_in 0 files ++ l)
+            (append-nil (entries_of_file (0 + length files) pushed) ∙ ap (λ (l : List ℕ). entries_of_rows (0 + length files) l pushed.rows) bytes
+            ∙ entered keeps file (0 + length files) read.0 pushed.rows read.1 read.2 ∙ ap (λ (n : ℕ). map (kept keeps) (entries_of n read.0)) count);
+      }
+
+  pub are_kept : length file ≤ 67108864 → length files < 16 → AreKept keeps files → AreKept keeps new
+  are_kept short room are = record {
+    few = omega (arith, room, ap (λ (l : List KeptFile). length l) behind, length-append files (pushed ∷ []));
+    stand = subst (λ (l : List KeptFile). All (λ (f : KeptFile). StandRows keeps f.bytes.items f.rows) l) (sym behind)
+        (All-append (λ (f : KeptFile). StandRows keeps f.bytes.items f.rows) files (pushed ∷ []) are.stand
+        (All-cons (λ (f : KeptFile). StandRows keeps f.bytes.items f.rows) pushed [] (subst (λ (l : List ℕ). StandRows keeps l pushed.rows) (sym bytes) (rows_stand keeps file read.0 pushed.rows short read.1 read.2)) (All-nil (λ (f : KeptFile). StandRows keeps f.bytes.items f.rows))));
   }
-
-  -- a place in the new file is one among all
-  new_placed : (place : Place) → place.file ≡ length files → IsPlaceIn bytes place → IsPlaceAmong (files ++ bytes ∷ []) place
-  new_placed place is placed = record {
-    file = omega (arith, is, length-append files (bytes ∷ []));
-    there = subst (λ (file : List ℕ). IsPlaceIn file place) (sym (new_file place is)) placed;
-  }
-
-  module _ (places more : List Place) (are : ArePlaces files places) (of : ArePlacesOf (length files) bytes more) where
-    -- the old entries stay, and the file's stand behind them
-    entries_are : map (entry_among (files ++ bytes ∷ [])) (places ++ more) ≡ map (entry_among files) places ++ entries_of (length files) of.reading
-    entries_are =
-        map-append (entry_among (files ++ bytes ∷ [])) places more ∙ ap (λ (es : List Entry). es ++ map (entry_among (files ++ bytes ∷ [])) more) (old_entries places are.placed)
-        ∙ ap (λ (es : List Entry). map (entry_among files) places ++ es) (new_entries more of.numbered ∙ of.entries)
-
-    -- they are the places of all entries of the files
-    pub added_places : length files < 16 → ArePlaces (files ++ bytes ∷ []) (places ++ more)
-    added_places room = record {
-      few = omega (arith, room, length-append files (bytes ∷ []));
-      entries = record {
-        readings = are.entries.readings ++ of.reading ∷ [];
-        are_readings = are_readings files are.entries.readings bytes of.reading are.entries.are_readings of.is_reading;
-        all =
-            entries_are ∙ ap (λ (es : List Entry). es ++ entries_of (length files) of.reading) are.entries.all
-            ∙ ap (λ (n : ℕ). entries_from 0 are.entries.readings ++ entries_of n of.reading) (omega (arith, as_many files are.entries.readings are.entries.are_readings))
-            ∙ sym (entries_push 0 are.entries.readings of.reading);
-      };
-      placed =
-          All-append (IsPlaceAmong (files ++ bytes ∷ [])) places more
-          (All-weaker (IsPlaceAmong files) (IsPlaceAmong (files ++ bytes ∷ [])) old_placed places are.placed)
-          (λ k d within. new_placed (get_or more k d) (of.numbered k d within) (of.placed k d within));
-    }
-
-    -- and the file is added
-    pub added_file : Adds (contents_of files places) (contents_of (files ++ bytes ∷ []) (places ++ more)) bytes
-    added_file = record { reading = of.reading; is_reading = of.is_reading; files = refl; entries = entries_are }

@@ -1,7 +1,7 @@
 mod Added
-mod Indexing
-mod Many
-mod Patches
-mod Served
-mod Tables
-mod Updates
+mod AmdRows
+mod IntelRows
+mod Located
+mod RowsFound
+mod TablePairs
+pub mod Kept

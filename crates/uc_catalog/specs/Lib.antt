@@ -1,4 +1,4 @@
-pub mod Adding
 pub mod Contents
-pub mod Indexes
-pub mod Places
+pub mod Files
+pub mod PatchRows
+pub mod UpdateRows

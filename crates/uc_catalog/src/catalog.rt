@@ -1,58 +1,68 @@
-ghost use Rattle.std.specs.Prelude.{◌≡◌, ◌^◌, ◌<◌, ◌≤◌, ◌↔◌, length, slice_get, Some, vec_len};
+ghost use Rattle.std.specs.Prelude.{◌≡◌, ◌^◌, ◌<◌, ◌≤◌, ◌+◌, IsTrue, length, slice_get, sum_by, take, Some, vec_len};
 
-use crate::adding::place_file;
+use crate::file::{FileRows, KeptFile, keep_rows};
 use crate::found::Found;
-use crate::indexes::EntryIndexes;
-use crate::patch::{patch_facts, served_sig};
-use crate::place::{Place, is_amd, own_bytes};
-use crate::update::{header_pair, table_pair, table_pairs, update_facts};
+use crate::place::place_of;
 use file_entries::EntryFacts;
 use std::alloc::Global;
 use std::marker::Model;
-use uc_bytes::{FileAnswer, NoMemory, Vendor, half_at};
+use uc_bytes::{FileAnswer, Vendor};
 
-/// Update files and their entries. A contract sees the bytes of each file, and all entries in the order of the files and
-/// of their places there. Files and entries are numbered from 0.
+/// Update files and their entries. A contract sees whether their bytes are kept, each file's vendor and number of entries,
+/// and all entries in the order of the files and of their places there. Files and entries are numbered from 0.
 #[derive(Debug, Drop)]
 pub struct Catalog {
     alloc: Global,
-    files: Vec<Vec<u8>>,
-    places: Vec<Place>,
-    indexes: EntryIndexes,
+    keeps: bool,
+    files: Vec<KeptFile>,
 }
 
 impl Model for Catalog {
     ghost use Rattle.uc_catalog.specs.Contents.{Contents};
+    ghost use Rattle.uc_catalog.specs.Files.{contents_of, AreKept};
 
     ghost Value = { Contents };
 
-    ghost use Rattle.uc_catalog.specs.Places.{contents_of, bytes_in};
-    ghost use Rattle.uc_catalog.specs.Indexes.{AreKept};
+    ghost view = { λ catalog. contents_of catalog.keeps catalog.files.items };
 
-    ghost view = { λ catalog. contents_of (bytes_in catalog.files.items) catalog.places.items };
-
-    ghost invariant = { λ catalog. AreKept (bytes_in catalog.files.items) catalog.places.items catalog.indexes.tables.items catalog.indexes.numbers.items };
+    ghost invariant = { λ catalog. AreKept catalog.keeps catalog.files.items };
 }
 
 impl Catalog {
-    ghost use Rattle.std.specs.Prelude.{[]};
-    ghost use Rattle.uc_bytes.specs.declared.causes.Vendor.{Vendor};
+    ghost use Rattle.std.specs.Prelude.{true, false};
     ghost use Rattle.amd_format.specs.Equiv.{id_of};
-    ghost use Rattle.file_entries.specs.Reading.{IsAmd};
     ghost use Rattle.file_entries.specs.Entry.{served};
-    ghost use Rattle.uc_catalog.specs.Contents.{IsWhole, IsAdded, file_at, entry_at};
-    ghost use Rattle.uc_catalog.specs.Places.{IsFound};
+    ghost use Rattle.uc_catalog.specs.Contents.{no_files, IsCounted, IsAdded, file_at, entry_at};
+    ghost use Rattle.uc_catalog.specs.Files.{IsFound};
 
-    /// A catalogue without files.
+    /// A catalogue without files, which will keep their bytes.
     pub fn new(alloc: Global) -> Catalog
-        ensures { result ≡ record { files = []; entries = [] } }
+        ensures { result ≡ no_files true }
     {
         Catalog {
             alloc,
+            keeps: true,
             files: Vec::new(alloc),
-            places: Vec::new(alloc),
-            indexes: EntryIndexes::new(alloc),
         }
+    }
+
+    /// A catalogue without files, which will keep no file's bytes: all that it tells is told as by one that does, but for
+    /// `bytes_of`.
+    pub fn of_facts(alloc: Global) -> Catalog
+        ensures { result ≡ no_files false }
+    {
+        Catalog {
+            alloc,
+            keeps: false,
+            files: Vec::new(alloc),
+        }
+    }
+
+    /// Whether it keeps the files' bytes.
+    pub fn keeps_bytes(&self) -> bool
+        ensures { result ≡ self.now.keeps }
+    {
+        self.keeps
     }
 
     /// Adds a file of at most 67,108,864 bytes behind those that stand, of which there are at most 15. A file without a
@@ -61,24 +71,19 @@ impl Catalog {
         requires room { length self.old.files < 16 }
         requires short { vec_len bytes ≤ 67108864 }
         ensures added { IsAdded self.old self.new bytes.items result }
-        ensures whole { IsWhole self.new }
+        ensures counted { IsCounted self.new }
     {
         self.files.reserve(1)?;
-        let number = self.files.len() as u32;
-        let standing = self.places.len();
-        match place_file(self.alloc, &mut self.places, number, bytes.as_slice()) {
-            Ok(()) => {}
+        let rows = match keep_rows(self.alloc, bytes.as_slice()) {
+            Ok(rows) => rows,
             Err(answer) => return Err(answer),
-        }
-        let places = &self.places[standing..];
-        match self.indexes.add(self.alloc, bytes.as_slice(), places) {
-            Ok(()) => {}
-            Err(NoMemory) => {
-                self.places.truncate(standing);
-                return Err(FileAnswer::NoMemory);
-            }
-        }
-        self.files.push_reserved(bytes);
+        };
+        let bytes = if self.keeps {
+            bytes
+        } else {
+            Vec::new(self.alloc)
+        };
+        self.files.push_reserved(KeptFile { rows, bytes });
         Ok(())
     }
 
@@ -92,35 +97,51 @@ impl Catalog {
     /// The vendor of a file, also of one without entries: AMD exactly where the magic of a container begins it.
     pub fn vendor_of(&self, f: u32) -> Vendor
         requires { f < length self.now.files }
-        ensures { (result ≡ Vendor.Amd) ↔ IsAmd (file_at self.now f) }
+        ensures { result ≡ (file_at self.now f).vendor }
     {
-        if is_amd(self.files[f as usize].as_slice()) {
-            Vendor::Amd
-        } else {
-            Vendor::Intel
-        }
+        self.files[f as usize].rows.vendor()
     }
 
-    /// The number of entries, at most 1,048,576. Its contract says also that these are all entries of the files.
+    /// The number of entries of a file, which stand behind those of the files before it.
+    pub fn entries_of(&self, f: u32) -> u32
+        requires { f < length self.now.files }
+        ensures count { result ≡ (file_at self.now f).entries }
+        ensures within { sum_by (λ file. file.entries) (take f self.now.files) + result ≤ length self.now.entries }
+        ensures counted { IsCounted self.now }
+    {
+        self.files[f as usize].rows.count()
+    }
+
+    /// The number of entries, at most 1,048,576. Its contract says also that these are as many as the files have.
     pub fn len(&self) -> u32
         ensures count { result ≡ length self.now.entries }
-        ensures whole { IsWhole self.now }
+        ensures counted { IsCounted self.now }
     {
-        self.places.len() as u32
+        let mut len = 0;
+        'files: for file in &self.files {
+            len += file.rows.count();
+        }
+        len
     }
 
-    /// An entry with the bytes that tell what it is.
+    /// An entry with what tells what it is.
     fn found(&self, i: u32) -> Found<'_>
         requires { i < length self.now.entries }
         ensures { IsFound (entry_at self.now i) result }
     {
-        let place = self.places[i as usize];
-        let file = self.files[place.file as usize].as_slice();
-        let own = own_bytes(file, &place);
-        if is_amd(file) {
-            Found::Patch(place, self.indexes.of_entry(i), own)
-        } else {
-            Found::Update(place, own)
+        let place = place_of(self.files.as_slice(), i);
+        let row = place.row as usize;
+        match &self.files[place.file as usize].rows {
+            FileRows::Updates(kept) => {
+                let update = &kept.rows[row];
+                let at = update.pairs_at as usize;
+                let pairs = &kept.pairs[at..at + update.pairs as usize];
+                Found::Update(place.file, update, pairs)
+            }
+            FileRows::Patches(kept) => {
+                let patch = &kept.rows[row];
+                Found::Patch(place.file, patch, &kept.tables[patch.table as usize])
+            }
         }
     }
 
@@ -130,8 +151,8 @@ impl Catalog {
         ensures { result ≡ (entry_at self.now i).facts }
     {
         match self.found(i) {
-            Found::Update(place, own) => update_facts(&place, own),
-            Found::Patch(place, _, own) => patch_facts(&place, own),
+            Found::Update(file, update, _) => update.facts(file),
+            Found::Patch(file, patch, _) => patch.facts(file),
         }
     }
 
@@ -142,7 +163,7 @@ impl Catalog {
         ensures { result ≡ length (entry_at self.now i).pairs }
     {
         match self.found(i) {
-            Found::Update(_, own) => 1 + table_pairs(own),
+            Found::Update(_, _, pairs) => 1 + pairs.len() as u32,
             Found::Patch(..) => 0,
         }
     }
@@ -154,29 +175,30 @@ impl Catalog {
         ensures { slice_get (entry_at self.now i).pairs k ≡ Some result }
     {
         match self.found(i) {
-            Found::Update(_, own) => {
+            Found::Update(_, update, pairs) => {
                 if k == 0 {
-                    header_pair(own)
+                    (update.sig, update.flags)
                 } else {
-                    table_pair(own, k - 1)
+                    pairs[(k - 1) as usize]
                 }
             }
             Found::Patch(..) => (0, 0),
         }
     }
 
-    /// The bytes of an entry: of an update header, data and table, of a patch what follows its section's head. A header
-    /// has at least 48 bytes.
+    /// The bytes of an entry, where they are kept: of an update header, data and table, of a patch what follows its
+    /// section's head. A header has at least 48 bytes.
     pub fn bytes_of(&self, i: u32) -> &[u8]
-        requires { i < length self.now.entries }
+        requires entry { i < length self.now.entries }
+        requires keeps { IsTrue self.now.keeps }
         ensures bytes { result.now ≡ (entry_at self.now i).bytes }
         ensures header { 48 ≤ length result.now }
         ensures few { length result.now < 2 ^ 32 }
     {
-        match self.found(i) {
-            Found::Update(_, own) => own,
-            Found::Patch(_, _, own) => own,
-        }
+        let place = place_of(self.files.as_slice(), i);
+        let file = &self.files[place.file as usize];
+        let (start, len) = file.rows.extent(place.row);
+        &file.bytes.as_slice()[start as usize..start as usize + len as usize]
     }
 
     /// The id that the table of an AMD entry's own container gives for a processor's signature; 0, which means none, where
@@ -187,7 +209,7 @@ impl Catalog {
     {
         match self.found(i) {
             Found::Update(..) => 0,
-            Found::Patch(_, index, _) => index.id_of(sig),
+            Found::Patch(_, _, index) => index.id_of(sig),
         }
     }
 
@@ -199,7 +221,13 @@ impl Catalog {
     {
         match self.found(i) {
             Found::Update(..) => None,
-            Found::Patch(_, index, own) => served_sig(index, half_at(own, 24), k),
+            Found::Patch(_, patch, index) => {
+                if patch.id == 0 {
+                    None
+                } else {
+                    index.served(patch.id, k)
+                }
+            }
         }
     }
 }

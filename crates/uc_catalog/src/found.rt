@@ -1,11 +1,12 @@
-use crate::place::Place;
+use crate::patches::PatchRow;
+use crate::updates::UpdateRow;
 use equiv_index::RowIndex;
 
-/// An entry that was looked up.
+/// An entry that was looked up, with the number of its file.
 #[derive(Clone, Copy, Debug)]
 pub enum Found<'a> {
-    /// An update: its place and its bytes.
-    Update(Place, &'a [u8]),
-    /// A patch: its place, the index of its container's table, and its own bytes.
-    Patch(Place, &'a RowIndex, &'a [u8]),
+    /// An update, and the pairs of its table.
+    Update(u32, &'a UpdateRow, &'a [(u32, u32)]),
+    /// A patch, and the index of its container's table.
+    Patch(u32, &'a PatchRow, &'a RowIndex),
 }

@@ -1,36 +1,35 @@
-//! The place of an entry in its file.
-ghost use Rattle.std.specs.Prelude.{◌≡◌, ◌+◌, ◌^◌, ◌<◌, ◌≤◌, length};
-ghost use Rattle.uc_catalog.specs.Places.{is_amd, own_of};
+//! The place of an entry among files.
+ghost use Rattle.std.specs.Prelude.{◌≡◌, ◌<◌, ◌≤◌, All, length, slice_get, slice_index_or};
+ghost use Rattle.uc_catalog.specs.Files.{count_of, entries_in, IsPlace};
 
-use amd_equiv::AMD_MAGIC;
-use uc_bytes::word_at;
+use crate::file::KeptFile;
 
 /// Where an entry stands.
-#[derive(Clone, Copy, Debug, PartialEq, Eq)]
+#[derive(Clone, Copy, Debug)]
 pub struct Place {
     /// The number of its file.
     pub file: u32,
-    /// Where it begins, in bytes from its file's begin.
-    pub start: u32,
-    /// Its length in bytes.
-    pub len: u32,
-    /// AMD: where its container begins, in bytes from its file's begin. Intel: 0.
-    pub container: u32,
+    /// The number of its row there.
+    pub row: u32,
 }
 
-/// Whether a container's magic begins the file.
-pub fn is_amd(file: &[u8]) -> bool
-    ensures { result ≡ is_amd file.now }
+/// The place of an entry of files, by its number among all.
+pub fn place_of(files: &[KeptFile], entry: u32) -> Place
+    requires few { length files.now ≤ 16 }
+    requires counts { All (λ file. count_of file.rows ≤ 65536) files.now }
+    requires within { entry < length (entries_in 0 files.now) }
+    ensures { IsPlace files.now entry result }
 {
-    file.len() >= 4 && word_at(file, 0) == AMD_MAGIC
-}
-
-/// The bytes of the entry with this place.
-pub fn own_bytes<'a>(file: &'a [u8], place: &Place) -> &'a [u8]
-    requires { place.now.start + place.now.len ≤ length file.now }
-    ensures value { result.now ≡ own_of file.now place.now }
-    ensures few { length result.now < 2 ^ 32 }
-{
-    let start = place.start as usize;
-    &file[start..start + place.len as usize]
+    let mut row = entry;
+    'files: for file in 0..files.len() {
+        let count = files[file].rows.count();
+        if row < count {
+            return Place {
+                file: file as u32,
+                row,
+            };
+        }
+        row -= count;
+    }
+    unreachable!()
 }

@@ -127,8 +127,30 @@ fn a_refused_file_leaves_the_catalogue_as_it_was(rt: HostRuntime) -> Result<(), 
         entry(&catalog, 1).map(|facts| (facts.file, facts.rev)),
         Some((1, 0xf4))
     );
-    if catalog.len() == 2 {
+    if catalog.len() == 2 && catalog.keeps_bytes() {
         assert_eq!(rt; catalog.bytes_of(1), copy.as_slice());
+    }
+    Ok(())
+}
+
+#[test]
+fn a_catalogue_of_facts_keeps_no_bytes_and_tells_the_same(rt: HostRuntime) -> Result<(), Fail> {
+    let alloc = rt.alloc();
+    let mut catalog = Catalog::of_facts(alloc);
+    assert!(rt; !catalog.keeps_bytes());
+    let mut first = Vec::new(alloc);
+    push_update(&mut first, 0xf0, 0xf8e5_d7af, 64)?;
+    assert_eq!(rt; add(&mut catalog, first), Ok(()));
+    assert_eq!(rt; add(&mut catalog, with_table(alloc)?), Ok(()));
+    assert_eq!(rt; (catalog.files(), catalog.len()), (2, 2));
+    let pairs = [(0x0009_06ea, 2), (0x0009_06eb, 2), (0x0009_06ec, 0x22)];
+    assert_eq!(rt; three_pairs(&catalog, 1), Some(pairs));
+    assert_eq!(rt;
+        entry(&catalog, 1).map(|facts| (facts.file, facts.start, facts.len)),
+        Some((1, 0, 108))
+    );
+    if catalog.files() == 2 {
+        assert_eq!(rt; catalog.entries_of(1), 1);
     }
     Ok(())
 }

@@ -1,15 +1,19 @@
 -- The offers of groups, place by place.
 use Rattle.std.proofs.Common.{◌≡◌, ℕ, zero, suc, ◌+◌, ◌<◌, List, [], ◌∷◌, length, map, Option, Some, None, refl, subst, arith}
-use Rattle.std.specs.Prelude.{false, slice_index_or, IfSome}
+use Rattle.std.specs.Prelude.{Bool, Result, false, slice_index_or, IfSome}
 use Rattle.std.specs.List.{range_with_len}
 use Rattle.std.proofs.lemmas.Option.{slice_get_within}
 use Rattle.uc_topology.specs.Stated.{Machine, group_count}
 use Rattle.file_entries.specs.declared.facts.CoreFacts.{CoreFacts}
+use Rattle.uc_io.specs.Writing.{Writes}
+use Rattle.file_entries.specs.declared.facts.EntryFacts.{EntryFacts}
 use Rattle.file_entries.specs.Entry.{Entry}
 use Rattle.file_entries.specs.Selection.{IsOffer}
-use Rattle.report_text.specs.Offers.{facts_of_group, AreOffers}
+use Rattle.report_text.specs.Offers.{facts_of_group, AreOffers, offers_text}
 use Rattle.uc_select.specs.Offers.{AreOffers as AreOffersAt}
-use Rattle.uc_cli.specs.Selecting.{cores_of}
+use Rattle.uc_cli.specs.Selecting.{cores_of, PutsOffers}
+use Rattle.uc_catalog.specs.Contents.{kept}
+use Rattle.uc_catalog.proofs.Kept.{offer_kept, facts_kept}
 
 module _ (entries : List Entry) where
   -- an offer before others
@@ -53,3 +57,15 @@ module _ (entries : List Entry) where
 
     pub are_offers : AreOffers machine entries offers
     are_offers = record { count = offers_count; each = λ group below. offers_each group None below }
+
+-- what is written for entries as they are kept is written for the entries
+pub puts_kept : (keeps : Bool) (machine : Machine) (entries : List Entry) {D E : Type 0} (stands : D → List ℕ → Type 0) (faults : D → ℕ) (old new : D) (result : Result (Unit {0}) E)
+    → PutsOffers stands faults old new machine (map (kept keeps) entries) result → PutsOffers stands faults old new machine entries result
+puts_kept keeps machine entries stands faults old new result puts = record {
+  offers = puts.offers;
+  are_offers = record {
+    count = puts.are_offers.count;
+    each = λ group below. offer_kept keeps entries (facts_of_group machine group) false (slice_index_or puts.offers group None) (puts.are_offers.each group below);
+  };
+  wrote = subst (λ (facts : ℕ → EntryFacts). Writes stands faults old new (offers_text machine facts puts.offers) result) (λ i n. facts_kept keeps entries n i) puts.wrote;
+}

@@ -12,6 +12,7 @@ use crate::refusal::refuse;
 use std::alloc::Global;
 use top_call::{Status, after_write};
 use uc_bytes::Text;
+use uc_catalog::Catalog;
 use uc_io::{Files, Sink};
 use uc_report::put_list;
 
@@ -26,7 +27,7 @@ pub fn list<F: Files, S: Sink>(alloc: Global, names: &[Text], files: &mut F, out
     ensures still { F.tells files.old → F.tells files.new }
     ensures later { F.faults files.old ≤ F.faults files.new }
 {
-    match read_updates(alloc, names, files) {
+    match read_updates(alloc, Catalog::of_facts(alloc), names, files) {
         Ok(catalog) => after_write(Status::Done, put_list(out, &catalog, names)),
         Err(refusal) => refuse(out, refusal),
     }

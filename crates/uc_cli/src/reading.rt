@@ -1,5 +1,6 @@
 //! The reading of files, with the names of those that are not read or are refused.
-ghost use Rattle.std.specs.Prelude.{◌≡◌, ◌≤◌, length};
+ghost use Rattle.std.specs.Prelude.{◌≡◌, ◌≤◌, IfOk, length};
+ghost use Rattle.uc_catalog.specs.Contents.{no_files};
 ghost use Rattle.uc_cli.specs.Reading.{AreUpdatesRead, IsTopologyRead, IsScriptRead};
 ghost use Rattle.tool_text.specs.Plays.{limits_of};
 
@@ -15,20 +16,23 @@ use uc_script::{ScriptAnswer, read_script};
 use uc_topology::{TopoCause, TopoFault, Topology, read_topology};
 use update_reads::{FilesAnswer, read_files};
 
-/// Reads the update files of names, at most 16, one after another into a catalogue. The first that is not read or has no
-/// reading decides, and no later one is opened.
+/// Reads the update files of names, at most 16, one after another into a catalogue that is empty yet. The first that is not
+/// read or has no reading decides, and no later one is opened.
 pub fn read_updates<'a, F: Files>(
     alloc: Global,
+    catalog: Catalog,
     names: &'a [Text],
     files: &mut F,
 ) -> Result<Catalog, Refusal<'a>>
-    requires { length names.now ≤ 16 }
+    requires few { length names.now ≤ 16 }
+    requires empty { catalog ≡ no_files catalog.keeps }
     ensures answer { AreUpdatesRead (F.tells files.old) names.now (F.holds files.old) (F.faults files.old) (F.faults files.new) result }
+    ensures keeps { IfOk result (λ read. read.keeps ≡ catalog.keeps) }
     ensures same { F.holds files.new ≡ F.holds files.old }
     ensures still { F.tells files.old → F.tells files.new }
     ensures later { F.faults files.old ≤ F.faults files.new }
 {
-    match read_files(alloc, names, files) {
+    match read_files(alloc, catalog, names, files) {
         Ok(catalog) => Ok(catalog),
         Err(FilesAnswer::Unread(file)) => Err(Refusal::Unread(&names[usize::from(file)])),
         Err(FilesAnswer::Refused(file, fault)) => {

@@ -73,7 +73,7 @@ pub fn select<F: Files, S: Sink>(
         Ok(machine) => machine,
         Err(refusal) => return refuse(out, refusal),
     };
-    match read_updates(alloc, names, files) {
+    match read_updates(alloc, Catalog::of_facts(alloc), names, files) {
         Ok(catalog) => after_write(Status::Done, put_selection(out, &machine, &catalog)),
         Err(refusal) => refuse(out, refusal),
     }

@@ -13,6 +13,7 @@ use std::alloc::Global;
 use std::slice::from_ref;
 use top_call::{Status, after_write};
 use uc_bytes::Text;
+use uc_catalog::Catalog;
 use uc_io::{Files, Sink};
 use uc_report::put_show;
 
@@ -32,7 +33,7 @@ pub fn show<F: Files, S: Sink>(
     ensures still { F.tells files.old → F.tells files.new }
     ensures later { F.faults files.old ≤ F.faults files.new }
 {
-    match read_updates(alloc, from_ref(name), files) {
+    match read_updates(alloc, Catalog::new(alloc), from_ref(name), files) {
         Ok(catalog) => {
             if number < u64::from(catalog.len()) {
                 after_write(Status::Done, put_show(out, &catalog, number as u32))

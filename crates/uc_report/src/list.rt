@@ -1,12 +1,11 @@
 //! The list of files and their entries.
-ghost use Rattle.std.specs.Prelude.{◌≡◌, ◌<◌, ◌≤◌, ◌+◌, ◌-◌, ◌==◌, not, ℕ, List, length, take, drop, flat_map};
-ghost use Rattle.std.specs.List.{position_or_len};
+ghost use Rattle.std.specs.Prelude.{◌≡◌, ◌<◌, ◌≤◌, ◌+◌, ◌-◌, ℕ, List, length, map, take, drop, flat_map};
 ghost use Rattle.uc_io.specs.Writing.{Writes};
-ghost use Rattle.file_entries.specs.Entry.{served, entries_of, entries_from, AreReadings};
-ghost use Rattle.file_entries.specs.Reading.{Reading, IsReading};
+ghost use Rattle.file_entries.specs.Entry.{served, entries_of};
+ghost use Rattle.file_entries.specs.Reading.{Reading};
 ghost use Rattle.report_text.specs.Lines.{pair_line, sig_line};
 ghost use Rattle.report_text.specs.Listing.{AreDateTexts, entry_text, entries_text, file_text, files_text};
-ghost use Rattle.uc_catalog.specs.Contents.{file_at, entry_at};
+ghost use Rattle.uc_catalog.specs.Contents.{sum_of, kept, file_at, entry_at, IsOfReadings};
 
 use crate::lines::{put_entry_line, put_file, put_pair, put_sig};
 use uc_bytes::Text;
@@ -65,21 +64,6 @@ fn put_entries<S: Sink>(
     Ok(())
 }
 
-/// Where the entries of a file end that begin at a number: the first number from there on of an entry of another file,
-/// or how many entries there are.
-fn end_of_file(catalog: &Catalog, file: u32, first: u32) -> u32
-    requires { first ≤ length catalog.now.entries }
-    ensures { result ≡ first + position_or_len (λ entry. not (entry.facts.file == file)) (drop first catalog.now.entries) }
-{
-    let end = catalog.len();
-    'entries: for i in first..end {
-        if catalog.entry(i).file != file {
-            return i;
-        }
-    }
-    end
-}
-
 /// Writes the lines on a file and its entries, which stand from one number up to another.
 fn put_file_entries<S: Sink>(
     out: &mut S,
@@ -92,7 +76,7 @@ fn put_file_entries<S: Sink>(
     requires file { file < length catalog.now.files }
     requires order { first ≤ end }
     requires within { end ≤ length catalog.now.entries }
-    ensures { (date_text : ℕ → List ℕ) (reading : Reading) → AreDateTexts date_text → IsReading (file_at catalog.now file) reading → take (end - first) (drop first catalog.now.entries) ≡ entries_of file reading → Writes S.stands S.faults out.old out.new (file_text date_text file first name.now reading) result }
+    ensures { (date_text : ℕ → List ℕ) (reading : Reading) → AreDateTexts date_text → file_at catalog.now file ≡ sum_of reading → take (end - first) (drop first catalog.now.entries) ≡ map (kept catalog.now.keeps) (entries_of file reading) → Writes S.stands S.faults out.old out.new (file_text date_text file first name.now reading) result }
 {
     put_file(out, file, name, catalog.vendor_of(file), end - first)?;
     put_entries(out, catalog, first, end)
@@ -102,11 +86,11 @@ fn put_file_entries<S: Sink>(
 /// from 0 on. It takes no memory.
 pub fn put_list<S: Sink>(out: &mut S, catalog: &Catalog, names: &[Text]) -> Result<(), SinkFailed>
     requires { length names.now ≡ length catalog.now.files }
-    ensures { (date_text : ℕ → List ℕ) (readings : List Reading) → AreDateTexts date_text → AreReadings catalog.now.files readings → catalog.now.entries ≡ entries_from 0 readings → Writes S.stands S.faults out.old out.new (files_text date_text 0 0 names.now readings) result }
+    ensures { (date_text : ℕ → List ℕ) (readings : List Reading) → AreDateTexts date_text → IsOfReadings catalog.now readings → Writes S.stands S.faults out.old out.new (files_text date_text 0 0 names.now readings) result }
 {
     let mut first = 0;
     'files: for file in 0..catalog.files() {
-        let end = end_of_file(catalog, file, first);
+        let end = first + catalog.entries_of(file);
         put_file_entries(out, catalog, file, &names[file as usize], first, end)?;
         first = end;
     }

@@ -1,5 +1,5 @@
 //! An entry with its bytes.
-ghost use Rattle.std.specs.Prelude.{◌<◌, ◌≤◌, ℕ, List, length, flat_map};
+ghost use Rattle.std.specs.Prelude.{◌<◌, ◌≤◌, IsTrue, ℕ, List, length, flat_map};
 ghost use Rattle.uc_io.specs.Writing.{Writes};
 ghost use Rattle.report_text.specs.Listing.{AreDateTexts};
 ghost use Rattle.report_text.specs.Show.{rows_of_32, hex_line, show_text};
@@ -34,9 +34,10 @@ fn put_bytes<S: Sink>(out: &mut S, bytes: &[u8]) -> Result<(), SinkFailed>
     Ok(())
 }
 
-/// Writes the line of an entry and then its bytes. It takes no memory.
+/// Writes the line of an entry and then its bytes, which the catalogue keeps. It takes no memory.
 pub fn put_show<S: Sink>(out: &mut S, catalog: &Catalog, i: u32) -> Result<(), SinkFailed>
-    requires { i < length catalog.now.entries }
+    requires entry { i < length catalog.now.entries }
+    requires keeps { IsTrue catalog.now.keeps }
     ensures { (date_text : ℕ → List ℕ) → AreDateTexts date_text → Writes S.stands S.faults out.old out.new (show_text date_text i (entry_at catalog.now i)) result }
 {
     put_entry_line(out, i, &catalog.entry(i))?;

@@ -110,7 +110,7 @@ fn list(out: &mut MemSink, catalog: &Catalog, names: &[Text]) -> Result<(), Sink
 
 /// Shows an entry, where it is there.
 fn show(out: &mut MemSink, catalog: &Catalog, i: u32) -> Result<(), SinkFailed> {
-    if i < catalog.len() {
+    if i < catalog.len() && catalog.keeps_bytes() {
         put_show(out, catalog, i)
     } else {
         Err(SinkFailed)

@@ -20,6 +20,7 @@ use Rattle.session_steps.specs.Did.{Did, only, ups_text}
 use Rattle.session_steps.specs.Step.{SessionStep, ReadAll, booted, brought_at_boot}
 use Rattle.session_steps.specs.Played.{FileCause, is_read_fault}
 use Rattle.update_reads.specs.Reading.{IsOfFiles, UnreadAt, RefusedAt}
+use Rattle.update_reads.proofs.Files.{all_entries}
 use Rattle.uc_catalog.specs.Contents.{Contents}
 use Rattle.uc_session.specs.declared.acted.Acted.{Acted}
 use Rattle.uc_session.specs.Acts.{Acts, did_by}
@@ -82,9 +83,9 @@ module _ (tells : Type 0) (holds : List ℕ → List ℕ) (setting : Setting) (n
       (λ lists. (off, record { name = bad.name; come = bad.come; place = bad.place; did_only = refl }))
       still
 
-  module _ (contents : Contents) (off : is_off old.hardware.power ≡ true) (still : now ≡ before) (read : IsOfFiles tells names holds contents) where
+  module _ (contents : Contents) (off : is_off old.hardware.power ≡ true) (still : now ≡ before) (read : IsOfFiles tells names holds contents) (keep : contents.keeps ≡ true) where
     all_read : ReadAll names read.reads contents.entries
-    all_read = record { readings = read.readings; come = (read.in_order, read.accepted); all = read.entries }
+    all_read = record { readings = read.readings; come = (read.in_order, read.accepted); all = all_entries tells names holds contents read keep }
 
     full : (needed : ℕ) → BootsTo setting contents.entries old new acted (Load (load.PoolFull needed)) →
         acted.answer ≡ Load (load.PoolFull needed) → Acts tells holds setting (command.Boot names) before now old new acted

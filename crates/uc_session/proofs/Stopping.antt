@@ -1,10 +1,12 @@
 -- A load that does not come to its rendezvous, as a step of a session.
-use Rattle.std.proofs.Common.{◌≡◌, ℕ, Bool, List, [], Some, refl, sym, subst}
+use Rattle.std.proofs.Common.{◌≡◌, ℕ, Bool, true, List, [], Some, refl, sym, subst}
+use Rattle.std.specs.Prelude.{Result, Ok, Err, MatchResult}
 use Rattle.std.proofs.lemmas.List.Elements.{All-nil}
 use Rattle.uc_io.specs.Faults.{Rose}
 use Rattle.uc_bytes.specs.declared.causes.FileFault.{FileFault}
 use Rattle.file_reads.specs.Reads.{Read}
 use Rattle.update_reads.specs.Reading.{IsOfFiles, UnreadAt, RefusedAt}
+use Rattle.update_reads.proofs.Files.{all_entries}
 use Rattle.uc_catalog.specs.Contents.{Contents}
 use Rattle.session_text.specs.declared.answers.LoadAnswer.TheVariants as load
 use Rattle.session_steps.specs.State.{Setting, State, first_missing}
@@ -43,9 +45,9 @@ module _ (tells : Type 0) (holds : List ℕ → List ℕ) (setting : Setting) (f
       cause = still;
     }
 
-    module _ (contents : Contents) (still : now ≡ before) (read : IsOfFiles tells names holds contents) where
+    module _ (contents : Contents) (still : now ≡ before) (read : IsOfFiles tells names holds contents) (keep : contents.keeps ≡ true) where
       all_read : ReadAll names read.reads contents.entries
-      all_read = record { readings = read.readings; come = (read.in_order, read.accepted); all = read.entries }
+      all_read = record { readings = read.readings; come = (read.in_order, read.accepted); all = all_entries tells names holds contents read keep }
 
       -- nothing is offered, or it does not fit
       pub stops : (stop : Stop) → StopsFrom setting force contents old stop → Stops tells holds setting force names before now old stop
@@ -105,3 +107,10 @@ module _ (tells : Type 0) (holds : List ℕ → List ℕ) (setting : Setting) (f
         read = subst (λ (all : Contents). ReadAll names read.reads all.entries) (sym is.catalog) all_read;
         from = subst (λ (all : Contents). SetsOutFrom setting force all old new ready) (sym is.catalog) is;
       }
+
+      -- what a load comes to that goes by what is offered of them
+      pub goes_on : (new : State) (result : Result Ready Stop)
+          → MatchResult result (SetsOutFrom setting force contents old new) (λ stop. StopsFrom setting force contents old stop × (new ≡ old))
+          → MatchResult result (SetsOut tells holds setting force names before now old new) (λ stop. Stops tells holds setting force names before now old stop × (new ≡ old))
+      goes_on new (Ok ready) is = sets_out new ready is
+      goes_on new (Err stop) is = (stops stop is.0, is.1)

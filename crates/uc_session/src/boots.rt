@@ -1,6 +1,6 @@
 //! A boot.
 
-ghost use Rattle.std.specs.Prelude.{◌≡◌, ◌≤◌, true, length, IfOk, IfErr};
+ghost use Rattle.std.specs.Prelude.{◌≡◌, ◌≤◌, true, IsTrue, length, IfOk, IfErr};
 ghost use Rattle.machine_steps.specs.Hardware.{is_off};
 ghost use Rattle.script_text.specs.declared.command.Command.TheVariants.{Boot};
 ghost use Rattle.session_laws.specs.Standing.{Standing};
@@ -66,7 +66,7 @@ fn boot_off<F: Files>(
     ensures still { F.tells files.old → F.tells files.new }
     ensures later { F.faults files.old ≤ F.faults files.new }
 {
-    match read_files(alloc, names, files) {
+    match read_files(alloc, Catalog::new(alloc), names, files) {
         Ok(catalog) => Ok(boot_from(parts, &catalog)),
         Err(FilesAnswer::Unread(file)) => Ok(Acted::load(LoadAnswer::ReadFault(file))),
         Err(FilesAnswer::Refused(file, fault)) => Ok(Acted::load(LoadAnswer::BadFile(file, fault))),
@@ -78,6 +78,7 @@ fn boot_off<F: Files>(
 fn boot_from(parts: &mut Parts, catalog: &Catalog) -> Acted
     requires standing { Standing (setting_of parts.old) (state_of parts.old) }
     requires off { is_off (state_of parts.old).hardware.power ≡ true }
+    requires keeps { IsTrue catalog.now.keeps }
     ensures done { BootsTo (setting_of parts.old) catalog.now.entries (state_of parts.old) (state_of parts.new) result result.answer }
     ensures setting { setting_of parts.new ≡ setting_of parts.old }
 {

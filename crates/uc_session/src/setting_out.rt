@@ -1,6 +1,6 @@
 //! A load, as far as its rendezvous.
 
-ghost use Rattle.std.specs.Prelude.{◌≡◌, ◌≤◌, length, is_some, MatchResult};
+ghost use Rattle.std.specs.Prelude.{◌≡◌, ◌≤◌, IsTrue, length, is_some, MatchResult};
 ghost use Rattle.std.specs.List.{list_any};
 ghost use Rattle.session_laws.specs.Standing.{Standing};
 ghost use Rattle.session_parts.specs.Parts.{setting_of, state_of};
@@ -51,7 +51,7 @@ pub fn set_out<F: Files>(
     if let Some(t) = parts.first_missing() {
         return Err(Stop::Answer(LoadAnswer::Busy(t)));
     }
-    match read_files(alloc, names, files) {
+    match read_files(alloc, Catalog::new(alloc), names, files) {
         Ok(catalog) => set_out_from(parts, force, catalog),
         Err(FilesAnswer::Unread(file)) => Err(Stop::Answer(LoadAnswer::ReadFault(file))),
         Err(FilesAnswer::Refused(file, fault)) => {
@@ -71,6 +71,7 @@ fn something_offered(offers: &[Option<u32>]) -> bool
 /// Puts what the groups are offered of a catalogue's entries.
 fn set_out_from(parts: &mut Parts, force: bool, catalog: Catalog) -> Result<Ready, Stop>
     requires standing { Standing (setting_of parts.old) (state_of parts.old) }
+    requires keeps { IsTrue catalog.keeps }
     ensures answer { MatchResult result (λ ready. SetsOutFrom (setting_of parts.old) force catalog (state_of parts.old) (state_of parts.new) ready) (λ stop. StopsFrom (setting_of parts.old) force catalog (state_of parts.old) stop × (state_of parts.new ≡ state_of parts.old)) }
     ensures setting { setting_of parts.new ≡ setting_of parts.old }
 {

@@ -1,30 +1,24 @@
 -- The catalogue of files that were read.
-use Rattle.std.proofs.Common.{◌≡◌, ℕ, Err, suc, ◌+◌, ◌<◌, ◌≤◌, List, [], ◌∷◌, ◌++◌, length, take, drop, Some, refl, sym, ◌∙◌, ap, subst, arith, append_assoc, length-append}
+use Rattle.std.proofs.Common.{◌≡◌, ℕ, Err, suc, ◌+◌, ◌<◌, ◌≤◌, List, [], ◌∷◌, ◌++◌, Bool, true, length, map, take, drop, Some, refl, sym, ◌∙◌, ap, subst, arith, append_assoc, length-append}
 use Rattle.std.specs.Prelude.{slice_get}
 use Rattle.std.proofs.Math.Seq.{split_at}
 use Rattle.std.proofs.lemmas.List.{take_more, map-append, append-nil, length-map, length-take-le}
 use Rattle.std.proofs.lemmas.Option.{get_or_from_slice_get, slice_get_within}
 use Rattle.uc_bytes.specs.declared.causes.FileFault.{FileFault}
 use Rattle.file_entries.specs.Reading.{Reading}
-use Rattle.file_entries.specs.Entry.{Entry, entries_of, entries_from, AreReadings}
+use Rattle.file_entries.specs.Entry.{Entry, entries_of, entries_from}
 use Rattle.file_reads.specs.declared.TheConstants.{FILE_LIMIT}
 use Rattle.file_reads.specs.Accepts.{Refuses, AreAccepted}
 use Rattle.file_reads.specs.Reads.{Read, files_of, ComesTo}
 use Rattle.file_reads.proofs.Accepted.{accepted_length, accepted_push}
 use Rattle.file_reads.proofs.Outcomes.{held_nil, held_one, held_append}
-use Rattle.uc_catalog.specs.Contents.{Contents, Adds}
+use Rattle.uc_catalog.specs.Contents.{FileSum, Contents, sum_of, kept, no_files, Adds}
+use Rattle.uc_catalog.proofs.Kept.{kept_all}
 use Rattle.uc_io.specs.Faults.{Rose}
 use Rattle.update_reads.specs.declared.answers.FilesAnswer.{FilesAnswer}
 use Rattle.update_reads.specs.declared.answers.UpdateAnswer.{UpdateAnswer}
 use Rattle.update_reads.specs.declared.answers.UpdateAnswer.TheVariants.{ReadFault, BadFile, NoMemory}
 use Rattle.update_reads.specs.Reading.{in_place, IsUpdateRead, IsOfFiles, UnreadAt, RefusedAt, AreFilesRead}
-
--- accepted files have these readings, one each
-are_readings : (files : List (List ℕ)) (rs : List Reading) → AreAccepted files rs → AreReadings files rs
-are_readings [] [] all = tt
-are_readings [] (r ∷ rs) all = absurd all
-are_readings (bytes ∷ files) [] all = absurd all
-are_readings (bytes ∷ files) (r ∷ rs) all = (all.0.is_reading, are_readings files rs all.1)
 
 entries_push : (number : ℕ) (rs : List Reading) (r : Reading) → entries_from number (rs ++ r ∷ [])
     ≡ entries_from number rs ++ entries_of (number + length rs) r
@@ -48,29 +42,27 @@ names_split names i name at =
 
 module _ (tells : Type 0) (names : List (List ℕ)) (holds : List ℕ → List ℕ) where
   -- no file yet
-  pub no_files : IsOfFiles tells (take 0 names) holds (record { files = []; entries = [] })
-  no_files = record {
+  pub none_yet : (keeps : Bool) → IsOfFiles tells (take 0 names) holds (no_files keeps)
+  none_yet keeps = record {
     reads = [];
     held = λ told. held_nil holds;
     in_order = refl;
     readings = [];
     accepted = tt;
-    files = refl;
-    entries = refl;
+    of = record { files = refl; entries = refl };
   }
-
-  -- the readings of a catalogue's files
-  pub readings_of : (contents : Contents) (of : IsOfFiles tells names holds contents) →
-      AreReadings contents.files of.readings
-  readings_of contents of =
-      subst (λ (files : List (List ℕ)). AreReadings files of.readings) (sym of.files)
-      (are_readings (files_of of.reads) of.readings of.accepted)
 
   -- how many files it has
   pub files_count : (contents : Contents) → IsOfFiles tells names holds contents → length contents.files ≡ length names
   files_count contents of =
-      ap length of.files ∙ length-map of.reads (λ (read : Read). read.bytes)
+      ap (λ (l : List FileSum). length l) of.of.files ∙ length-map of.readings sum_of ∙ accepted_length (files_of of.reads) of.readings of.accepted
+      ∙ length-map of.reads (λ (read : Read). read.bytes)
       ∙ sym (length-map of.reads (λ (read : Read). read.name)) ∙ ap length of.in_order
+
+  -- where it keeps their bytes, its entries are all of theirs
+  pub all_entries : (contents : Contents) (of : IsOfFiles tells names holds contents) → contents.keeps ≡ true → contents.entries ≡ entries_from 0 of.readings
+  all_entries contents of keep =
+      of.of.entries ∙ ap (λ (k : Bool). map (kept k) (entries_from 0 of.readings)) keep ∙ kept_all (entries_from 0 of.readings)
 
   -- the file of one name more
   pub one_more : (old new : Contents) (bytes : List ℕ) (i : ℕ) (name : List ℕ) → IsOfFiles tells (take i names)
@@ -80,9 +72,9 @@ module _ (tells : Type 0) (names : List (List ℕ)) (holds : List ℕ → List �
   one_more old new bytes i name of adds within told at =
       let rs = of.readings in
       let read : Read = record { name = name; bytes = bytes } in
-      let number : length rs ≡ length old.files = accepted_length (files_of of.reads)
-      rs of.accepted ∙ sym (ap length of.files) in
+      let number : length old.files ≡ length rs = ap (λ (l : List FileSum). length l) of.of.files ∙ length-map rs sum_of in
       let place : length old.files ≡ 0 + length rs = omega (arith, number) in
+      let entry = kept old.keeps in
       record {
         reads = of.reads ++ read ∷ [];
         held = λ tell. held_append holds of.reads (read ∷ []) (of.held tell) (held_one holds read (told tell));
@@ -95,11 +87,15 @@ module _ (tells : Type 0) (names : List (List ℕ)) (holds : List ℕ → List �
               within = within;
               is_reading = adds.is_reading;
             }));
-        files = adds.files ∙ ap (λ (l : List (List ℕ)). l ++ bytes ∷ [])
-            of.files ∙ sym (map-append (λ (r : Read). r.bytes) of.reads (read ∷ []));
-        entries = adds.entries ∙ ap (λ (l : List Entry). l ++ entries_of (length old.files) adds.reading) of.entries
-            ∙ ap (λ (n : ℕ). entries_from 0 rs ++ entries_of n adds.reading)
-            place ∙ sym (entries_push 0 rs adds.reading);
+        of = record {
+          files = adds.files ∙ ap (λ (l : List FileSum). l ++ sum_of adds.reading ∷ []) of.of.files
+              ∙ sym (map-append sum_of rs (adds.reading ∷ []));
+          entries = adds.entries ∙ ap (λ (l : List Entry). l ++ map entry (entries_of (length old.files) adds.reading)) of.of.entries
+              ∙ ap (λ (n : ℕ). map entry (entries_from 0 rs) ++ map entry (entries_of n adds.reading)) place
+              ∙ sym (map-append entry (entries_from 0 rs) (entries_of (0 + length rs) adds.reading))
+              ∙ ap (λ (l : List Entry). map entry l) (sym (entries_push 0 rs adds.reading))
+              ∙ ap (λ (k : Bool). map (kept k) (entries_from 0 (rs ++ adds.reading ∷ []))) (sym adds.keeps);
+        };
       }
 
   reads_count : (contents : Contents) (i : ℕ) → i < length names → (of : IsOfFiles tells (take i names)

@@ -3,8 +3,7 @@ use Rattle.std.specs.Prelude.{◌≡◌, ℕ, suc, ◌≤◌, List, length, Resu
 use Rattle.uc_io.specs.Faults.{Rose}
 use Rattle.uc_bytes.specs.declared.causes.FileFault.{FileFault}
 use Rattle.file_entries.specs.Reading.{Reading}
-use Rattle.file_entries.specs.Entry.{entries_from}
-use Rattle.uc_catalog.specs.Contents.{Contents, Adds}
+use Rattle.uc_catalog.specs.Contents.{Contents, IsOfReadings, Adds}
 use Rattle.file_reads.specs.declared.TheConstants.{FILE_LIMIT}
 use Rattle.file_reads.specs.Accepts.{Refuses, AreAccepted}
 use Rattle.file_reads.specs.Reads.{Read, names_of, files_of, AreHeld, Reads, NotRead, Refused}
@@ -37,8 +36,7 @@ pub record IsOfFiles (tells : Type 0) (names : List (List ℕ)) (holds : List �
   pub in_order : names_of reads ≡ names
   pub readings : List Reading
   pub accepted : AreAccepted (files_of reads) readings
-  pub files : contents.files ≡ files_of reads
-  pub entries : contents.entries ≡ entries_from 0 readings
+  pub of : IsOfReadings contents readings
 
 -- those in front of a place were read and accepted, and the file in this place could not be read
 pub record UnreadAt (tells : Type 0) (names : List (List ℕ)) (holds : List ℕ → List ℕ) (file : ℕ) : Type 0 where

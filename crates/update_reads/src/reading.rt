@@ -1,4 +1,5 @@
-ghost use Rattle.std.specs.Prelude.{◌≡◌, ◌<◌, ◌≤◌, length};
+ghost use Rattle.std.specs.Prelude.{◌≡◌, ◌<◌, ◌≤◌, IfOk, length};
+ghost use Rattle.uc_catalog.specs.Contents.{no_files};
 ghost use Rattle.update_reads.specs.Reading.{IsUpdateRead, AreFilesRead};
 
 use crate::answers::{FilesAnswer, UpdateAnswer};
@@ -39,20 +40,23 @@ pub fn read_update<F: Files>(
     }
 }
 
-/// Reads the update files of names, at most 16, one after another into a catalogue. The first that is not read or has no
-/// reading decides, and no later one is opened.
+/// Reads the update files of names, at most 16, one after another into a catalogue that is empty yet. The first that is not
+/// read or has no reading decides, and no later one is opened.
 pub fn read_files<F: Files>(
     alloc: Global,
+    catalog: Catalog,
     names: &[Text],
     files: &mut F,
 ) -> Result<Catalog, FilesAnswer>
-    requires { length names.now ≤ 16 }
+    requires few { length names.now ≤ 16 }
+    requires empty { catalog ≡ no_files catalog.keeps }
     ensures answer { AreFilesRead (F.tells files.old) names.now (F.holds files.old) (F.faults files.old) (F.faults files.new) result }
+    ensures keeps { IfOk result (λ read. read.keeps ≡ catalog.keeps) }
     ensures same { F.holds files.new ≡ F.holds files.old }
     ensures still { F.tells files.old → F.tells files.new }
     ensures later { F.faults files.old ≤ F.faults files.new }
 {
-    let mut catalog = Catalog::new(alloc);
+    let mut catalog = catalog;
     let mut place: u16 = 0;
     'names: for name in names {
         match read_update(alloc, &mut catalog, name, files) {

@@ -1,4 +1,4 @@
-use Rattle.std.proofs.Common.{ℕ, List, Option, Some, None, subst, sym, ◌∙◌}
+use Rattle.std.proofs.Common.{ℕ, List, Option, Some, None, subst, ◌∙◌}
 use Rattle.std.specs.Prelude.{false}
 use Rattle.uc_topology.specs.Stated.{group_count}
 use Rattle.file_entries.specs.declared.facts.CoreFacts.{CoreFacts}

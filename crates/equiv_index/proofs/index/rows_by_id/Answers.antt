@@ -13,9 +13,9 @@ id_of_row row = row.1
 
 pub returns : goal.returns
 returns c =
-    let stable : IsStableByKey id_of_row nat_cmp c.in_ok-rows.rows.items c.sort_by_key.new.self.items =
+    let stable : IsStableByKey id_of_row nat_cmp c.in_ok-firsts.firsts.items c.sort_by_key.new.self.items =
     c.in_ok-sort_by_key.ensures.stable id_of_row (answers_always _ _ _ (λ f a r f' k. search rules)) in
     record {
       rises = IsNonDecreasingBy-from_sort_by_key id_of_row c.sort_by_key.new.self.items c.in_ok-sort_by_key.ensures.sorted (λ a r q k. search rules);
-      same = λ id. stable_having id_of_row id (0, id) c.in_ok-rows.rows.items c.sort_by_key.new.self.items refl stable ∙ ap (λ (l : List Plain). having id_of_row id l) c.in_ok-rows.ensures;
+      same = λ id. stable_having id_of_row id (0, id) c.in_ok-firsts.firsts.items c.sort_by_key.new.self.items refl stable ∙ ap (λ (l : List Plain). having id_of_row id l) c.in_ok-firsts.ensures;
     }

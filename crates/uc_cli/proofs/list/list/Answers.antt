@@ -1,4 +1,4 @@
-use Rattle.std.proofs.Common.{length, refl}
+use Rattle.std.proofs.Common.{length, refl, sym}
 use Rattle.top_call.specs.declared.status.Status.TheVariants.{Done}
 use Rattle.top_call.proofs.Endings.{Ends-written, ended_cause}
 use Rattle.file_reads.specs.Reads.{AllRead, NotRead, Refused}
@@ -7,8 +7,12 @@ use Rattle.tool_text.specs.Commands.{ListText}
 use Rattle.tool_text.specs.Tool.{FromReads}
 use Rattle.tool_text.proofs.SomeText.{date_text_of, are_date_texts, list_text, whether_told}
 use Rattle.uc_cli.proofs.Endings.{done_written, files_refused}
-use Rattle.update_reads.proofs.Files.{readings_of}
+use Rattle.update_reads.proofs.Files.{files_count}
 use Rattle.uc_cli.proofs.list.list.Goals as goal
+
+pub put_list-requires : goal.put_list-requires
+put_list-requires g c =
+    sym (files_count (g.F.Pieces.tells c.args.files.now) c.args.names.now (g.F.Files.holds c.args.files.now) c.in-Ok.catalog c.in-Ok.ensures.answer.1)
 
 pub returns-in-Ok-clause-written : goal.returns-in-Ok-clause-written
 returns-in-Ok-clause-written g c =
@@ -16,7 +20,7 @@ returns-in-Ok-clause-written g c =
     let holds = g.F.Files.holds c.args.files.now in
     let names = c.args.names.now in
     let of = c.in-Ok.ensures.answer.1 in
-    let wrote = c.put_list.ensures date_text_of of.readings are_date_texts (readings_of tells names holds _ of) of.entries in
+    let wrote = c.put_list.ensures date_text_of of.readings are_date_texts of.of in
     done_written g.S.Sink.stands g.S.Sink.faults _ _ (FromReads tells holds (ListText names)) _ (files_text date_text_of 0 0 names of.readings) _
     (record {
       reads = of.reads;
@@ -33,7 +37,7 @@ returns-in-Ok-clause-written g c =
 pub returns-in-Ok-clause-write_cause : goal.returns-in-Ok-clause-write_cause
 returns-in-Ok-clause-write_cause g c =
     let of = c.in-Ok.ensures.answer.1 in
-    let wrote = c.put_list.ensures date_text_of of.readings are_date_texts (readings_of _ _ _ _ of) of.entries in
+    let wrote = c.put_list.ensures date_text_of of.readings are_date_texts of.of in
     ended_cause g.S.Sink.stands g.S.Sink.faults _ _ _ Done _ (λ e. cc) (Ends-written g.S.Sink.stands g.S.Sink.faults _ _ _ Done _ _ wrote c.after_write.ensures)
 
 pub returns-in-Err-clause-written : goal.returns-in-Err-clause-written

@@ -10,6 +10,7 @@ use Rattle.tool_text.specs.Tool.{FromReads}
 use Rattle.tool_text.proofs.SomeText.{select_text, whether_told}
 use Rattle.uc_cli.specs.Reading.{AreUpdatesRead}
 use Rattle.uc_cli.specs.Selecting.{PutsOffers}
+use Rattle.uc_cli.proofs.Groups.{puts_kept}
 use Rattle.uc_cli.proofs.Endings.{done_written, files_refused, topology_refused}
 use Rattle.uc_cli.proofs.select.select.Goals as goal
 
@@ -35,7 +36,9 @@ returns-in-Ok-read_updates-clause-written g c =
     let holds = g.F.Files.holds c.args.files.now in
     let stated = c.in-Ok.ensures.answer.1 in
     let of = c.in-Ok-read_updates.ensures.answer.1 in
-    let puts = subst (λ (entries : List Entry). PutsOffers g.S.Sink.stands g.S.Sink.faults c.args.out.now c.put_selection.new.out c.in-Ok.machine entries c.put_selection.result) of.entries c.put_selection.ensures in
+    let keeps = c.in-Ok-read_updates.catalog.keeps in
+    let puts = puts_kept keeps c.in-Ok.machine (entries_of_all of.readings) g.S.Sink.stands g.S.Sink.faults c.args.out.now c.put_selection.new.out c.put_selection.result
+    (subst (λ (entries : List Entry). PutsOffers g.S.Sink.stands g.S.Sink.faults c.args.out.now c.put_selection.new.out c.in-Ok.machine entries c.put_selection.result) of.of.entries c.put_selection.ensures) in
     done_written g.S.Sink.stands g.S.Sink.faults _ _ (FromReads tells holds (SelectText topology names)) _ (offers_text c.in-Ok.machine (facts_at (entries_of_all of.readings)) puts.offers) _
     (record {
       reads = record { name = topology; bytes = stated.0 } ∷ of.reads;

@@ -5,13 +5,14 @@ use Rattle.top_call.specs.declared.status.Status.TheVariants.{Done}
 use Rattle.top_call.proofs.Endings.{Ends-written, ended_cause}
 use Rattle.file_entries.specs.Entry.{Entry, patch_entry}
 use Rattle.file_reads.specs.Reads.{AllRead, NotRead, Refused}
-use Rattle.uc_catalog.specs.Contents.{entry_at}
+use Rattle.uc_catalog.specs.Contents.{Contents, entry_at}
 use Rattle.report_text.specs.Lines.{no_entry_line}
 use Rattle.report_text.specs.Show.{show_text}
 use Rattle.tool_text.specs.Commands.{ShowText, entries_of_all}
 use Rattle.tool_text.specs.Tool.{FromReads}
 use Rattle.tool_text.proofs.SomeText.{date_text_of, are_date_texts, show_text_of, whether_told}
 use Rattle.update_reads.specs.Reading.{IsOfFiles}
+use Rattle.update_reads.proofs.Files.{all_entries}
 use Rattle.uc_cli.specs.Reading.{AreUpdatesRead}
 use Rattle.uc_cli.proofs.Endings.{done_written, bad_written, files_refused}
 use Rattle.uc_cli.proofs.show.show.Goals as goal
@@ -24,7 +25,7 @@ returns-then-number-from-clause-written g c =
     let of = subst (λ (names : List (List ℕ)). IsOfFiles tells names holds c.in-Ok.catalog) c.from_ref.ensures.value c.in-Ok.ensures.answer.1 in
     let inside : c.args.number < length c.in-Ok.catalog.entries = omega (arith, c.if-number-from.true, c.from.ensures, c.len.ensures.count) in
     let there : slice_get (entries_of_all of.readings) c.args.number ≡ Some (entry_at c.in-Ok.catalog c.args.number) =
-    ap (λ (l : List Entry). slice_get l c.args.number) (sym of.entries) ∙ slice_get-get_or c.in-Ok.catalog.entries c.args.number (patch_entry 0 0 [] []) inside in
+    ap (λ (l : List Entry). slice_get l c.args.number) (sym (all_entries tells (name ∷ []) holds c.in-Ok.catalog of (c.in-Ok.ensures.keeps ∙ ap (λ (v : Contents). v.keeps) c.new.ensures))) ∙ slice_get-get_or c.in-Ok.catalog.entries c.args.number (patch_entry 0 0 [] []) inside in
     done_written g.S.Sink.stands g.S.Sink.faults _ _ (FromReads tells holds (ShowText name c.args.number)) _ (show_text date_text_of c.args.number (entry_at c.in-Ok.catalog c.args.number)) _
     (record {
       reads = of.reads;
@@ -49,7 +50,7 @@ returns-in-Ok-clause-written g c =
     let holds = g.F.Files.holds c.args.files.now in
     let of = subst (λ (names : List (List ℕ)). IsOfFiles tells names holds c.in-Ok.catalog) c.from_ref.ensures.value c.in-Ok.ensures.answer.1 in
     let past : length (entries_of_all of.readings) ≤ c.args.number =
-    omega (arith, c.if-number-from.false, c.from.ensures, c.len.ensures.count, ap (λ (l : List Entry). length l) of.entries) in
+    omega (arith, c.if-number-from.false, c.from.ensures, c.len.ensures.count, ap (λ (l : List Entry). length l) (all_entries tells (name ∷ []) holds c.in-Ok.catalog of (c.in-Ok.ensures.keeps ∙ ap (λ (v : Contents). v.keeps) c.new.ensures))) in
     bad_written g.S.Sink.stands g.S.Sink.faults _ _ (FromReads tells holds (ShowText name c.args.number)) _ (no_entry_line c.args.number) _
     (record {
       reads = of.reads;

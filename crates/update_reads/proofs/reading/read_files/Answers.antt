@@ -1,9 +1,9 @@
-use Rattle.std.proofs.Common.{◌≡◌, ◌<◌, ℕ, List, [], Some, sym, subst, length, refl, ap, ◌∙◌, arith}
+use Rattle.std.proofs.Common.{◌≡◌, ◌<◌, ℕ, List, [], Some, sym, subst, length, take, refl, ap, ◌∙◌, arith, length-take-le}
 use Rattle.std.proofs.lemmas.Option.{slice_get_read}
 use Rattle.std.specs.Prelude.{slice_get}
 use Rattle.uc_catalog.specs.Contents.{Contents}
 use Rattle.update_reads.specs.Reading.{IsOfFiles}
-use Rattle.update_reads.proofs.Files.{no_files, one_more, stopped}
+use Rattle.update_reads.proofs.Files.{none_yet, files_count, one_more, stopped}
 use Rattle.update_reads.proofs.reading.read_files.Goals as goal
 
 pub names-init : goal.names-init
@@ -15,8 +15,9 @@ names-init g c =
       still = λ tell. tell;
       place = refl;
       count = refl;
-      stands = subst (λ (contents : Contents). IsOfFiles tells [] holds contents) (sym c.new-catalog.ensures)
-          (no_files tells c.args.names.now holds);
+      keeps = refl;
+      stands = subst (λ (contents : Contents). IsOfFiles tells [] holds contents) (sym c.requires.empty)
+          (none_yet tells c.args.names.now holds c.args.catalog.keeps);
     }
 
 pub names-preserved : goal.names-preserved
@@ -30,6 +31,7 @@ names-preserved g c =
       still = λ tell. c.in-Ok.ensures.still (c.names.invariant.still tell);
       place = omega (arith, c.names.invariant.place);
       count = answer.0 ∙ c.names.invariant.count;
+      keeps = answer.1.3.keeps ∙ c.names.invariant.keeps;
       stands = one_more _ c.args.names.now _ _ _ answer.1.0 c.names.name-index c.name-item.result
           c.names.invariant.stands answer.1.3 answer.1.1
           (λ tell. answer.1.2 (c.names.invariant.still tell) ∙ ap (λ (holds : List ℕ →
@@ -38,7 +40,7 @@ names-preserved g c =
     }
 
 pub overflow_add-place : goal.overflow_add-place
-overflow_add-place g c = omega (arith, c.names.invariant.place, c.names-test.true, c.requires)
+overflow_add-place g c = omega (arith, c.names.invariant.place, c.names-test.true, c.requires.few)
 
 pub returns-in-Err-clause-answer : goal.returns-in-Err-clause-answer
 returns-in-Err-clause-answer g c =
@@ -51,3 +53,8 @@ returns-in-Err-clause-answer g c =
     (ap (λ (holds : List ℕ → List ℕ). holds c.name-item.result) c.names.invariant.same)
     c.names.invariant.count
     c.in-Err.ensures.answer
+
+pub read_update-requires : goal.read_update-requires
+read_update-requires g c =
+    let read = take c.names.name-index c.args.names.now in
+    omega (arith, c.requires.few, c.names-test.true, files_count _ read _ c.names.catalog c.names.invariant.stands, length-take-le c.names.name-index c.args.names.now (omega (arith, c.names-test.true)))

@@ -8,5 +8,6 @@ invariant-names g l = record {
   still : g.F.Pieces.tells l.fn.files → g.F.Pieces.tells l.files;
   place : l.place ≡ l.name-index;
   count : g.F.Pieces.faults l.files ≡ g.F.Pieces.faults l.fn.files;
+  keeps : l.catalog.keeps ≡ l.fn.catalog.keeps;
   stands : IsOfFiles (g.F.Pieces.tells l.fn.files) (take l.name-index l.names) (g.F.Files.holds l.fn.files) l.catalog;
 }
