@@ -1,0 +1,5 @@
+mod Ended
+mod Loads
+mod Played
+mod SomeText
+mod Through

@@ -1,0 +1,36 @@
+use Rattle.top_call.specs.declared.status.Status.TheVariants.{Usage}
+use Rattle.top_call.proofs.Endings.{Ends-written, ended_cause}
+use Rattle.live_cli.proofs.Loads.{loads_in_time, late_loads}
+use Rattle.live_cli.proofs.Played.{faulty_written}
+use Rattle.live_cli.proofs.live.run_live.Goals as goal
+
+pub returns-in-Ok-clause-written : goal.returns-in-Ok-clause-written
+returns-in-Ok-clause-written g c = rw c.in-Ok.ensures c.play_live.ensures.written
+
+pub returns-in-Ok-clause-usage : goal.returns-in-Ok-clause-usage
+returns-in-Ok-clause-usage g c = rw c.in-Ok.ensures c.play_live.ensures.usage
+
+pub returns-in-Ok-clause-loads_in_time : goal.returns-in-Ok-clause-loads_in_time
+returns-in-Ok-clause-loads_in_time g c =
+    loads_in_time c.the_verdict_is_the_first_that_holds.ensures.one c.an_outcome_in_time_is_done.ensures
+
+pub returns-in-Ok-clause-late_loads : goal.returns-in-Ok-clause-late_loads
+returns-in-Ok-clause-late_loads g c = late_loads
+
+pub returns-in-Err-clause-written : goal.returns-in-Err-clause-written
+returns-in-Err-clause-written g c =
+    rw c.in-Err.ensures
+    (faulty_written (g.F.Pieces.tells c.args.files.now) (g.F.Files.holds c.args.files.now) g.R.Rendezvous.lists (g.R.Rendezvous.limit c.args.how.now) (g.R.Rendezvous.runs c.args.how.now) _ g.S.Sink.stands g.S.Sink.faults _ _ c.in-Err.index _
+    (Ends-written g.S.Sink.stands g.S.Sink.faults _ _ _ (Usage c.in-Err.index) _ _ c.put_usage.ensures c.after_write.ensures))
+
+pub returns-in-Err-clause-write_cause : goal.returns-in-Err-clause-write_cause
+returns-in-Err-clause-write_cause g c =
+    ended_cause g.S.Sink.stands g.S.Sink.faults _ _ _ (Usage c.in-Err.index) _ (λ e. cc)
+    (Ends-written g.S.Sink.stands g.S.Sink.faults _ _ _ (Usage c.in-Err.index) _ _ c.put_usage.ensures c.after_write.ensures)
+
+pub returns-in-Err-clause-loads_in_time : goal.returns-in-Err-clause-loads_in_time
+returns-in-Err-clause-loads_in_time g c =
+    loads_in_time c.the_verdict_is_the_first_that_holds.ensures.one c.an_outcome_in_time_is_done.ensures
+
+pub returns-in-Err-clause-late_loads : goal.returns-in-Err-clause-late_loads
+returns-in-Err-clause-late_loads g c = late_loads

@@ -1,0 +1,4 @@
+pub mod Loads
+pub mod Prompt
+pub mod Texts
+pub mod Words

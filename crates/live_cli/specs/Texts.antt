@@ -1,0 +1,100 @@
+-- What the program writes, each text with the status that it then ends with, for the reads that were made and the
+-- rendezvous that were held, both in their order. `lists` says whether a rendezvous prints its items, and `most` how
+-- many threads one takes.
+use Rattle.std.specs.Prelude.{◌≡◌, ◌⊎◌, ℕ, ◌+◌, ◌<◌, ◌≤◌, Bool, false, List, [], ◌∷◌, ◌++◌, length, Option, None}
+use Rattle.uc_topology.specs.declared.fault.TopoCause.TheVariants.{LiveLimit}
+use Rattle.uc_topology.specs.Stated.{Machine}
+use Rattle.top_call.specs.declared.status.Status.{Status}
+use Rattle.top_call.specs.declared.status.Status.TheVariants.{Usage, BadInput, WriteFault, NoMemory}
+use Rattle.file_reads.specs.Reads.{Read, AreHeld}
+use Rattle.report_text.specs.Lines.{usage_line, topology_line}
+use Rattle.rendezvous_rule.specs.Runs.{RunOf}
+use Rattle.script_report.specs.Accepts.{IsScript}
+use Rattle.script_text.specs.Stated.{Stated}
+use Rattle.session_text.specs.declared.answers.SessionAnswer.{SessionAnswer}
+use Rattle.session_steps.specs.Did.{Did}
+use Rattle.session_steps.specs.Session.{Steps, texts_from, all_reads, all_runs, session_answer}
+use Rattle.tool_text.specs.Commands.{FailsAt}
+use Rattle.tool_text.specs.Plays.{limits_of, setting_of, status_of, unread_after, StatesMachine, ScriptFailsAt}
+use Rattle.tool_text.specs.Words.{Asked, Faulty, PlayOf}
+use Rattle.live_cli.specs.Words.{live_asked}
+
+-- the machine has more threads than a rendezvous takes; the script is not opened
+pub record IsTooMany (most : ℕ) (topology : List ℕ) (reads : List Read) (text : List ℕ) : Type 0 where
+  pub machine : Machine
+  pub states : StatesMachine topology machine reads []
+  pub many : most < length machine.stated.threads
+  pub lines : text ≡ topology_line 0 LiveLimit
+
+abbrev pub TooManyAt : ℕ → List ℕ → List Read → Option ℕ → List ℕ → Status → Type 0
+TooManyAt most topology reads None text BadInput = IsTooMany most topology reads text
+TooManyAt most topology reads files text status = ⊥
+
+-- the commands of a script were run, each with its lines, with these reads and rendezvous
+pub record PlaysLive (lists : Bool) (machine : Machine) (script : Stated) (reads : List Read) (runs : List RunOf)
+    (text : List ℕ) (answer : SessionAnswer) : Type 0 where
+  pub dids : List Did
+  pub steps : Steps lists (setting_of machine script) script.commands dids
+  pub all : reads ≡ all_reads dids
+  pub held : runs ≡ all_runs dids
+  pub lines : text ≡ texts_from 1 script.commands dids
+  pub is_answer : answer ≡ session_answer dids
+
+-- the script is read and states commands, which are run
+pub record PlaysScript (lists : Bool) (script : List ℕ) (machine : Machine) (reads : List Read) (runs : List RunOf)
+    (files : Option ℕ) (text : List ℕ) (status : Status) : Type 0 where
+  pub bytes : List ℕ
+  pub behind : List Read
+  pub first : reads ≡ record { name = script; bytes = bytes } ∷ behind
+  pub stated : Stated
+  pub is_script : IsScript (limits_of machine) bytes stated
+  pub answer : SessionAnswer
+  pub plays : PlaysLive lists machine stated behind runs text answer
+  pub is_status : status ≡ status_of answer
+  pub count : files ≡ unread_after (2 + length behind) answer
+
+-- the machine has few enough threads; its script is not read or refused, or played
+pub record PlaysFor (lists : Bool) (most : ℕ) (topology script : List ℕ) (reads : List Read) (runs : List RunOf)
+    (files : Option ℕ) (text : List ℕ) (status : Status) : Type 0 where
+  pub machine : Machine
+  pub behind : List Read
+  pub states : StatesMachine topology machine reads behind
+  pub few : length machine.stated.threads ≤ most
+  pub played :
+      ((runs ≡ []) × ScriptFailsAt script machine behind files text status)
+      ⊎ PlaysScript lists script machine behind runs files text status
+
+abbrev pub SessionText : Bool → ℕ → List ℕ → List ℕ → List Read → List RunOf → Option ℕ → List ℕ → Status → Type 0
+SessionText lists most topology script reads runs files text status =
+    ((runs ≡ []) × FailsAt topology reads files text status)
+    ⊎ ((runs ≡ []) × TooManyAt most topology reads files text status)
+    ⊎ PlaysFor lists most topology script reads runs files text status
+
+-- the texts for what a command line asks for
+abbrev pub AskedText : Bool → ℕ → Asked → List Read → List RunOf → Option ℕ → List ℕ → Status → Type 0
+AskedText lists most (Faulty i) reads runs None text (Usage k) =
+    (reads ≡ []) × (runs ≡ []) × (k ≡ i) × (text ≡ usage_line i)
+AskedText lists most (PlayOf topology script) reads runs files text status =
+    SessionText lists most topology script reads runs files text status
+AskedText lists most line reads runs files text status = ⊥
+
+-- the texts for the words of a command line
+abbrev pub LiveText : Bool → ℕ → List (List ℕ) → List Read → List RunOf → Option ℕ → List ℕ → Status → Type 0
+LiveText lists most words = AskedText lists most (live_asked words)
+
+-- What a rendezvous keeps of its runs grew by just these, where they list nothing. After a write fault, or for want of
+-- memory, nothing is said of them.
+abbrev pub KeptBy : Bool → List RunOf → List RunOf → Status → List RunOf → Type 0
+KeptBy lists before now WriteFault = λ runs. Unit {0}
+KeptBy lists before now NoMemory = λ runs. Unit {0}
+KeptBy lists before now status = λ runs. lists ≡ false → now ≡ before ++ runs
+
+-- a text of some reads and runs; where the files tell what they hold, that is what the reads gave
+pub record FromRuns (tells : Type 0) (holds : List ℕ → List ℕ) (kept : List RunOf → Type 0)
+    (texts : List Read → List RunOf → Option ℕ → List ℕ → Status → Type 0)
+    (files : Option ℕ) (text : List ℕ) (status : Status) : Type 0 where
+  pub reads : List Read
+  pub held : tells → AreHeld holds reads
+  pub runs : List RunOf
+  pub is_kept : kept runs
+  pub is_text : texts reads runs files text status

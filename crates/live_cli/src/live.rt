@@ -1,0 +1,105 @@
+//! The top call.
+ghost use Rattle.std.specs.Prelude.{◌≡◌, ◌≤◌};
+ghost use Rattle.uc_io.specs.Faults.{Rose};
+ghost use Rattle.top_call.specs.Causes.{ReadCause, WriteCause};
+ghost use Rattle.top_call.specs.Written.{Written};
+ghost use Rattle.tool_text.specs.Tool.{UsageCause};
+ghost use Rattle.tool_text.specs.Words.{PlayOf};
+ghost use Rattle.live_cli.specs.Loads.{LoadsInTime, LateLoads};
+ghost use Rattle.live_cli.specs.Texts.{FromRuns, KeptBy, LiveText, SessionText};
+ghost use Rattle.live_cli.specs.Words.{live_asked};
+
+use crate::words::read_words;
+use command_laws::each_command_does_something;
+use ctl_core::Rendezvous;
+use play_laws::an_outcome_in_time_is_done;
+use round_laws::the_verdict_is_the_first_that_holds;
+use std::alloc::Global;
+use top_call::{Status, after_write};
+use uc_bytes::Text;
+use uc_cli::{Refusal, end_session, read_commands, read_machine, refuse};
+use uc_io::{Files, Sink};
+use uc_report::put_usage;
+use uc_session::run_session;
+use uc_topology::{TopoCause, TopoFault};
+
+/// Reads a topology and then a script for it, and runs the script's commands, each written as it goes; or says why
+/// there is nothing to run. The topology may have so many threads as the rendezvous takes.
+fn play_live<F: Files, S: Sink, R: Rendezvous>(
+    alloc: Global,
+    topology: &Text,
+    script: &Text,
+    files: &mut F,
+    out: &mut S,
+    how: &mut R,
+) -> Status
+    ensures written { Written
+        (FromRuns (F.tells files.old) (F.holds files.old) (KeptBy R.lists (R.runs how.old) (R.runs how.new) result)
+        (SessionText R.lists (R.limit how.old) topology.now script.now))
+        (Rose (F.faults files.old) (F.faults files.new)) S.stands out.old out.new result }
+    ensures usage { UsageCause (PlayOf topology.now script.now) result }
+    ensures read_cause { ReadCause (F.faults files.old) (F.faults files.new) result }
+    ensures write_cause { WriteCause (S.faults out.old) (S.faults out.new) result }
+    ensures same { F.holds files.new ≡ F.holds files.old }
+    ensures still { F.tells files.old → F.tells files.new }
+    ensures later { F.faults files.old ≤ F.faults files.new }
+    ensures most_stays { R.limit how.new ≡ R.limit how.old }
+{
+    each_command_does_something();
+    let machine = match read_machine(alloc, topology, files) {
+        Ok(machine) => machine,
+        Err(refusal) => return refuse(out, refusal),
+    };
+    if machine.threads() > how.most() {
+        let fault = TopoFault {
+            line: 0,
+            cause: TopoCause::LiveLimit,
+        };
+        return refuse(out, Refusal::BadTopology(fault));
+    }
+    let script = match read_commands(alloc, script, &machine, files) {
+        Ok(script) => script,
+        Err(refusal) => return refuse(out, refusal),
+    };
+    let answer = run_session(alloc, &machine, &script, how, files, out);
+    end_session(out, answer)
+}
+
+/// Does all that the program `ucode_live` does: `words` are those after the program's name.
+///
+/// `written` says that the sink took a text of `LiveText`, for the bytes that were read and the rendezvous that were
+/// held, and the status is that text's; after a write fault or want of memory it took a front of one. Where the files
+/// tell what they hold, each read gave what its name holds; where `how` lists no items, what it keeps of its runs grew
+/// by just the rendezvous of the text, but after a write fault or want of memory. The next clauses say that each status
+/// but `Done`, `BadInput`, `Short`, `Panicked` and `NoMemory` has its cause in the words or in a count of faults;
+/// `same` and `still`, that every name still holds what it held, and that files that told this still tell it. The last
+/// two are of each load in such a text: it is done where its rendezvous is not late and no group with an offer refuses,
+/// and it says that a thread halted or gave up only where its rendezvous is late.
+pub fn run_live<F: Files, S: Sink, R: Rendezvous>(
+    alloc: Global,
+    words: &[Text],
+    files: &mut F,
+    out: &mut S,
+    how: &mut R,
+) -> Status
+    ensures written { Written
+        (FromRuns (F.tells files.old) (F.holds files.old) (KeptBy R.lists (R.runs how.old) (R.runs how.new) result)
+        (LiveText R.lists (R.limit how.old) words.now))
+        (Rose (F.faults files.old) (F.faults files.new)) S.stands out.old out.new result }
+    ensures usage { UsageCause (live_asked words.now) result }
+    ensures read_cause { ReadCause (F.faults files.old) (F.faults files.new) result }
+    ensures write_cause { WriteCause (S.faults out.old) (S.faults out.new) result }
+    ensures same { F.holds files.new ≡ F.holds files.old }
+    ensures still { F.tells files.old → F.tells files.new }
+    ensures later { F.faults files.old ≤ F.faults files.new }
+    ensures most_stays { R.limit how.new ≡ R.limit how.old }
+    ensures loads_in_time { LoadsInTime }
+    ensures late_loads { LateLoads }
+{
+    an_outcome_in_time_is_done();
+    the_verdict_is_the_first_that_holds();
+    match read_words(words) {
+        Ok(named) => play_live(alloc, named.topology, named.script, files, out, how),
+        Err(index) => after_write(Status::Usage(index), put_usage(out, index)),
+    }
+}
