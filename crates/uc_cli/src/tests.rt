@@ -8,6 +8,7 @@ mod faults;
 mod lists;
 mod plays;
 mod selections;
+mod sessions;
 
 /// Room for each text of these tests.
 const ROOM: usize = 4_096;
