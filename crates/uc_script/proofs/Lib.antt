@@ -1,3 +1,4 @@
+mod FirstLines
 mod Lines
 mod Read
 mod Scheduled

@@ -1,8 +1,8 @@
 -- The lines of a script, one after the other.
-use Rattle.std.proofs.Common.{◌≡◌, ◌≢◌, inl, inr, ◌≤◌, ℕ, Bool, true, false, cond, List, [], ◌∷◌, ◌++◌, length, drop, Option, Some, None, Result, Ok, Err, refl, sym, ap, subst, ◌∙◌, arith}
+use Rattle.std.proofs.Common.{◌≡◌, ◌≢◌, inl, inr, ◌≤◌, ℕ, Bool, true, false, cond, List, [], ◌∷◌, ◌++◌, length, drop, filter, Option, Some, None, Result, Ok, Err, refl, sym, ap, subst, ◌∙◌, arith}
 use Rattle.std.specs.List.{list_all}
 use Rattle.std.proofs.lemmas.Bool.{le-leb, lt-leb}
-use Rattle.uc_text.specs.Lines.{words_of}
+use Rattle.uc_text.specs.Lines.{counts, words_of}
 use Rattle.rendezvous_steps.specs.declared.ends.Beat.{Beat}
 use Rattle.script_text.specs.declared.command.OpenLoad.{OpenLoad}
 use Rattle.script_text.specs.declared.fault.ScriptCause.{ScriptCause}
@@ -146,11 +146,23 @@ module _ (limits : Limits) (before : Before) (load : OpenLoad) (line : ℕ × Li
     beats_go_on beats is sound added =
         ap (λ (bs : List Beat). read_on limits (in_load before (record load { beats = bs })) rest) added ∙ sym (read_beats is sound) ∙ here
 
-    pub beats_fail : (next : Before) (beats : List Beat) (events : ℕ) (answer : LineAnswer) (r : ScriptAnswer) → has_form words form.End ≡ false → IsScheduled limits words load.beats beats events (Err answer) → r ≡ answer_at line.0 answer
+    pub beats_fail : (next : Before) (beats : List Beat) (events : ℕ) (answer : LineAnswer) (r : ScriptAnswer) → has_form words form.End ≡ false → IsScheduled {A = Unit {0}} limits words load.beats beats events (Err answer) → r ≡ answer_at line.0 answer
         → GoesOn limits (in_load before first) all next rest (Err r)
     beats_fail next beats events (answer.Cause cause) r is fails answers =
         subst (λ (a : ScriptAnswer). GoesOn limits (in_load before first) all next rest (Err a)) (sym answers) (sym here ∙ read_beats_fault cause is fails)
     beats_fail next beats events answer.NoMemory r is fails answers = subst (λ (a : ScriptAnswer). GoesOn limits (in_load before first) all next rest (Err a)) (sym answers) tt
+
+-- where nothing was taken
+pub unchanged : (limits : Limits) (before : Before) (load first : OpenLoad) (beats : List Beat) (lines now all : List (ℕ × List ℕ)) → read_on limits (in_load before load) (filter counts lines) ≡ read_on limits (in_load before first) all
+    → now ≡ lines → beats ≡ load.beats → read_on limits (in_load before (record load { beats = beats })) (filter counts now) ≡ read_on limits (in_load before first) all
+unchanged limits before load first beats lines now all same same_lines same_beats =
+    ap (λ (bs : List Beat). read_on limits (in_load before (record load { beats = bs })) (filter counts now)) same_beats
+    ∙ ap (λ (ls : List (ℕ × List ℕ)). read_on limits (in_load before load) (filter counts ls)) same_lines ∙ same
+
+-- a fault is the same whatever is left
+pub fails_anyhow : (limits : Limits) (before next other : Before) (lines rest left : List (ℕ × List ℕ)) (r : ScriptAnswer) → GoesOn limits before lines next rest (Err r) → GoesOn limits before lines other left (Err r)
+fails_anyhow limits before next other lines rest left (Fault fault) fails = fails
+fails_anyhow limits before next other lines rest left NoMemory fails = tt
 
 -- no line is left, and the load has no end
 pub none_left : (limits : Limits) (before : Before) (load first : OpenLoad) (lines all rest : List (ℕ × List ℕ)) (next : Before) (r : ScriptAnswer) → read_on limits (in_load before load) lines ≡ read_on limits (in_load before first) all → lines ≡ []

@@ -1,10 +1,8 @@
 -- The words of a schedule, one after the other.
-use Rattle.std.proofs.Common.{◌≡◌, ◌+◌, ◌-◌, ◌^◌, ℕ, Bool, true, false, ◌&&◌, List, [], ◌∷◌, ◌++◌, drop, map, min, refl, sym, ap, subst, ◌∙◌, ◌≤◌, arith, append_assoc, append-nil, length, not, nat_lt, Option, Some, None, Result, Ok, Err}
+use Rattle.std.proofs.Common.{◌≡◌, ◌+◌, ◌-◌, ◌^◌, ◌<◌, ℕ, Bool, true, false, ◌&&◌, List, [], ◌∷◌, ◌++◌, drop, map, min, refl, sym, ap, subst, ◌∙◌, ◌≤◌, arith, append_assoc, append-nil, length, not, nat_lt, Option, Some, None, Result, Ok, Err}
 use Rattle.std.specs.Prelude.{if◌then◌else◌}
 use Rattle.std.specs.List.{list_all}
-use Rattle.std.proofs.lemmas.Bool.{le-ltb}
-use Rattle.std.proofs.lemmas.List.{nil_from_length}
-use Rattle.uc_text.specs.Lines.{words_of}
+use Rattle.std.proofs.lemmas.Bool.{le-ltb, lt-ltb}
 use Rattle.rendezvous_steps.specs.declared.ends.Beat.{Beat}
 use Rattle.script_text.specs.declared.fault.ScriptCause.{ScriptCause}
 use Rattle.script_text.specs.declared.fault.ScriptCause.TheVariants.{Word, Number, Range, TooMany}
@@ -83,20 +81,23 @@ leaves_less limits words old left beats word more beat pushed so_far split read 
     (so_far.0 ∙ ap (schedule_fault limits beats) split ∙ fault, so_far.1 ∙ ap (λ (ws : List (List ℕ)). beats ++ beats_of ws) split ∙ stand)
 
 -- what the words that are left come to is what all come to
-pub leaves_scheduled : (limits : Limits) (words : List (List ℕ)) (old : List Beat) (left : List (List ℕ)) (beats new : List Beat) (events : ℕ) (r : Result (Unit {0}) LineAnswer)
+pub leaves_scheduled : {A : Type 0} (limits : Limits) (words : List (List ℕ)) (old : List Beat) (left : List (List ℕ)) (beats new : List Beat) (events : ℕ) (r : Result A LineAnswer)
     → LeavesSchedule limits words old left beats → IsScheduled limits left beats new events r → IsScheduled limits words old new events r
 leaves_scheduled limits words old left beats new events (Ok _) leaves done = (leaves.0 ∙ done.0, done.1 ∙ sym leaves.1, done.2)
 leaves_scheduled limits words old left beats new events (Err (Cause cause)) leaves done = leaves.0 ∙ done
 leaves_scheduled limits words old left beats new events (Err NoMemory) leaves done = tt
 
--- where no word is left and the events are not too many, the line is done
-pub leaves_none : (limits : Limits) (words : List (List ℕ)) (old : List Beat) (rest : List ℕ) (beats : List Beat) (events : ℕ)
-    → LeavesSchedule limits words old (words_of rest) beats → length rest ≡ 0 → Counted limits beats events → events ≤ 4194304 → IsScheduled limits words old beats events (Ok tt)
-unfolding words_of
-leaves_none limits words old rest beats events leaves none counted few =
-    let left : words_of rest ≡ [] = ap words_of (nil_from_length rest none) in
+-- where no word is left, the line is done, or has too many events
+pub leaves_none : {A : Type 0} (x : A) (limits : Limits) (words : List (List ℕ)) (old beats : List Beat) (events : ℕ)
+    → LeavesSchedule limits words old [] beats → Counted limits beats events → events ≤ 4194304 → IsScheduled limits words old beats events (Ok x)
+leaves_none x limits words old beats events leaves counted few =
     let all : beats ++ [] ≡ beats = append-nil beats in
     let more : nat_lt 4194304 (events_of limits (beats ++ [])) ≡ false = le-ltb _ _ (omega (arith, counted, few, ap (events_of limits) all)) in
-    let fault : schedule_fault limits beats [] ≡ None = ap (first_failing true true true) more in
-    leaves_scheduled limits words old (words_of rest) beats beats events (Ok tt) leaves
-    (ap (schedule_fault limits beats) left ∙ fault, sym (ap (λ (ws : List (List ℕ)). beats ++ beats_of ws) left ∙ all), counted)
+    leaves_scheduled limits words old [] beats beats events (Ok x) leaves (ap (first_failing true true true) more, sym all, counted)
+
+pub leaves_many : (A : Type 0) (limits : Limits) (words : List (List ℕ)) (old beats : List Beat) (events : ℕ)
+    → LeavesSchedule limits words old [] beats → Counted limits beats events → 4194304 < events → IsScheduled {A = A} limits words old beats events (Err (Cause TooMany))
+leaves_many A limits words old beats events leaves counted many =
+    let all : beats ++ [] ≡ beats = append-nil beats in
+    let more : nat_lt 4194304 (events_of limits (beats ++ [])) ≡ true = lt-ltb _ _ (omega (arith, counted, many, ap (events_of limits) all)) in
+    leaves.0 ∙ ap (first_failing true true true) more

@@ -1,5 +1,5 @@
 -- Words that are a byte and one to three digits.
-use Rattle.std.proofs.Common.{◌≡◌, ℕ, ◌+◌, ◌-◌, ◌*◌, ◌<◌, ◌≤◌, ◌^◌, Bool, true, false, ◌&&◌, List, [], ◌∷◌, ◌++◌, length, take, drop, filter, get_or, Some, None, refl, sym, ap, ◌∙◌, subst, inl, inr, arith, nat_eq, codes, cond, append-nil}
+use Rattle.std.proofs.Common.{◌≡◌, ℕ, ◌+◌, ◌-◌, ◌*◌, ◌<◌, ◌≤◌, ◌^◌, Bool, true, false, ◌&&◌, List, [], ◌∷◌, ◌++◌, length, take, drop, filter, get_or, Some, None, refl, sym, ap, ◌∙◌, subst, inl, inr, arith, nat_eq, nat_lt, not, codes, cond, append-nil}
 use Rattle.std.specs.Char.{digit_value, is_digit}
 use Rattle.std.specs.List.{All, onto_first, slice_split, starts_with}
 use Rattle.std.specs.Prelude.{◌==◌}
@@ -12,25 +12,20 @@ use Rattle.std.proofs.lemmas.List.Splits.{slice_split_at, slice_split_none, slic
 use Rattle.std.proofs.lemmas.Str.{digit_value_digit}
 use Rattle.uc_text.specs.Lines.{is_blank, has_bytes, words_of}
 use Rattle.uc_text.specs.Numbers.{are_digits, below, number_of, place_value, spelled, spelled_in}
+use Rattle.rendezvous_steps.specs.declared.ends.Beat.{Beat}
+use Rattle.script_text.specs.declared.forms.Limits.{Limits}
 use Rattle.script_text.specs.declared.forms.Form.TheVariants.{End}
 use Rattle.script_text.specs.Forms.{has_form}
 use Rattle.uc_script.proofs.Words.{end_alone}
-use Rattle.uc_script.specs.Shorts.{EndsWord, IsFirstShort}
+use Rattle.uc_script.proofs.FirstLines.{IsPlain, first_line-cons, after_line-cons, first_line-append, after_line-append, first_line-feed, after_line-feed}
+use Rattle.uc_script.specs.FirstLine.{first_line, after_line, left_words, left_text}
+use Rattle.uc_script.specs.Schedules.{IsFirstBeat, IsLineOfBeats}
+use Rattle.uc_script.specs.Shorts.{EndsWord, IsFirstShort, is_mark}
 
--- the bytes of a word up to its end are the first word
-first_word : (first : ℕ) (more after rest : List ℕ) → All (λ byte. is_blank byte ≡ false) (first ∷ more) → EndsWord after rest → words_of ((first ∷ more) ++ after) ≡ (first ∷ more) ∷ words_of rest
-unfolding words_of
-first_word first more after rest others (inl none) =
-    ap (λ (text : List ℕ). filter has_bytes (slice_split is_blank ((first ∷ more) ++ text))) none.0
-    ∙ ap (λ (text : List ℕ). filter has_bytes (slice_split is_blank text)) (append-nil (first ∷ more))
-    ∙ ap (filter has_bytes) (slice_split_none is_blank (first ∷ more) others)
-    ∙ sym (ap (λ (text : List ℕ). (first ∷ more) ∷ filter has_bytes (slice_split is_blank text)) none.1)
-first_word first more after rest others (inr ends) =
-    ap (λ (text : List ℕ). filter has_bytes (slice_split is_blank ((first ∷ more) ++ text))) ends.1
-    ∙ ap (filter has_bytes) (slice_split_at is_blank (first ∷ more) ends.0 rest others ends.2)
-
-not_blank : (byte : ℕ) → 48 ≤ byte → byte ≤ 57 → is_blank byte ≡ false
-not_blank byte low high = grind (arith, nat_tests)
+-- a piece that is not empty stays
+keeps : (piece : List ℕ) (pieces : List (List ℕ)) → 0 < length piece → filter has_bytes (piece ∷ pieces) ≡ piece ∷ filter has_bytes pieces
+keeps [] pieces some = absurd (omega arith)
+keeps (byte ∷ bytes) pieces some = refl
 
 of_digit : (byte : ℕ) → 48 ≤ byte → byte ≤ 57 → digit_value byte + 48 ≡ byte
 of_digit byte low high = digit_value_digit byte (grind arith)
@@ -66,11 +61,48 @@ module _ (a m : ℕ) (low_a : 48 ≤ a) (high_a : a ≤ 57) (is_a : m + 48 ≡ a
 
 -- ---- words of one, two and three digits, in the parts that a reader has
 
-abbrev IsPlain : ℕ → Type 0
-IsPlain byte = is_blank byte ≡ false
+-- a byte of a word, which ends no line
+abbrev IsOfWord : ℕ → Type 0
+IsOfWord byte = (is_blank byte ≡ false) × IsPlain byte
 
-one_byte : (byte : ℕ) → IsPlain byte → All IsPlain (byte ∷ [])
-one_byte byte plain = All-cons IsPlain byte [] plain (All-nil IsPlain)
+of_word : (byte : ℕ) → 48 ≤ byte → byte ≤ 57 → IsOfWord byte
+of_word byte low high = (grind (arith, nat_tests), (grind (arith, nat_tests), grind (arith, nat_tests)))
+
+of_mark : (byte : ℕ) → is_mark byte ≡ true → IsOfWord byte
+of_mark byte is = (grind (arith, nat_tests), (grind (arith, nat_tests), grind (arith, nat_tests)))
+
+blank_plain : (byte : ℕ) → is_blank byte ≡ true → IsPlain byte
+blank_plain byte is = (grind (arith, nat_tests), grind (arith, nat_tests))
+
+-- the word that ends before a byte is the first of its line, and this is left
+left_after : (word : List ℕ) (byte : ℕ) (rest : List ℕ) (is_last : Bool) → 0 < length word → All IsOfWord word → EndsWord byte is_last
+    → words_of (first_line (word ++ byte ∷ rest)) ≡ word ∷ left_words rest is_last
+unfolding words_of
+left_after word byte rest true some all ends =
+    ap words_of (first_line-append word (byte ∷ rest) (λ k d lt. (all k d lt).1) ∙ ap (λ (l : List ℕ). word ++ l) (first_line-feed byte rest ends) ∙ append-nil word)
+    ∙ ap (filter has_bytes) (slice_split_none is_blank word (λ k d lt. (all k d lt).0)) ∙ keeps word [] some
+left_after word byte rest false some all ends =
+    ap words_of (first_line-append word (byte ∷ rest) (λ k d lt. (all k d lt).1) ∙ ap (λ (l : List ℕ). word ++ l) (first_line-cons byte rest (blank_plain byte ends)))
+    ∙ ap (filter has_bytes) (slice_split_at is_blank word byte (first_line rest) (λ k d lt. (all k d lt).0) ends) ∙ keeps word (slice_split is_blank (first_line rest)) some
+
+text_after : (word : List ℕ) (byte : ℕ) (rest : List ℕ) (is_last : Bool) → All IsOfWord word → EndsWord byte is_last → after_line (word ++ byte ∷ rest) ≡ left_text rest is_last
+text_after word byte rest true all ends = after_line-append word (byte ∷ rest) (λ k d lt. (all k d lt).1) ∙ after_line-feed byte rest ends
+text_after word byte rest false all ends = after_line-append word (byte ∷ rest) (λ k d lt. (all k d lt).1) ∙ after_line-cons byte rest (blank_plain byte ends)
+
+-- a text that begins with a word, and a byte that ends it
+short : (text : List ℕ) (mark : ℕ) (digits : List ℕ) (byte : ℕ) (rest : List ℕ) (is_last : Bool) (number : ℕ) → text ≡ (mark ∷ digits) ++ byte ∷ rest → All IsOfWord digits → EndsWord byte is_last → number_of digits ≡ Some number
+    → is_mark mark ≡ true → IsFirstShort text mark number rest is_last
+short text mark digits byte rest is_last number is others ends spelled marks =
+    let all = All-cons IsOfWord mark digits (of_mark mark marks) others in record {
+      digits = digits;
+      words = ap (λ (t : List ℕ). words_of (first_line t)) is ∙ left_after (mark ∷ digits) byte rest is_last (omega arith) all ends;
+      spelled = spelled;
+      after = ap after_line is ∙ text_after (mark ∷ digits) byte rest is_last all ends;
+      first = ap (λ (t : List ℕ). get_or (first_line t) 0 0) is ∙ ap (λ (l : List ℕ). get_or l 0 0) (first_line-append (mark ∷ digits) (byte ∷ rest) (λ k d lt. (all k d lt).1));
+    }
+
+one_byte : (byte : ℕ) → IsOfWord byte → All IsOfWord (byte ∷ [])
+one_byte byte is = All-cons IsOfWord byte [] is (All-nil IsOfWord)
 
 -- what is left of a text from a place on
 left_is : (text after : List ℕ) (n : ℕ) → after ≡ take (length text - n) (drop n text) → after ≡ drop n text
@@ -80,63 +112,59 @@ first_is : (text : List ℕ) → 1 ≤ length text → text ≡ get_or text 0 0 
 first_is [] some = absurd (omega arith)
 first_is (byte ∷ text) some = refl
 
-first_two : (text : List ℕ) → 2 ≤ length text → text ≡ get_or text 0 0 ∷ get_or text 1 0 ∷ drop 2 text
-first_two [] some = absurd (omega arith)
-first_two (byte ∷ []) some = absurd (omega arith)
-first_two (byte ∷ next ∷ text) some = refl
+first_three : (text : List ℕ) → 3 ≤ length text → text ≡ get_or text 0 0 ∷ get_or text 1 0 ∷ get_or text 2 0 ∷ drop 3 text
+first_three [] some = absurd (omega arith)
+first_three (byte ∷ []) some = absurd (omega arith)
+first_three (byte ∷ next ∷ []) some = absurd (omega arith)
+first_three (byte ∷ next ∷ third ∷ text) some = refl
 
--- the first byte is no blank and the second is a digit: these are the bytes that are left
+-- a byte, a digit and one more byte: these are the bytes that are left
 pub record IsBegun (text left : List ℕ) (m : ℕ) : Type 0 where
-  pub some : 2 ≤ length text
-  pub rest : left ≡ take (length text - 2) (drop 2 text)
-  pub plain : is_blank (get_or text 0 0) ≡ false
+  pub some : 3 ≤ length text
+  pub rest : left ≡ take (length text - 3) (drop 3 text)
   pub low : 48 ≤ get_or text 1 0
   pub high : get_or text 1 0 ≤ 57
   pub is : m + 48 ≡ get_or text 1 0
 
--- one more digit
-pub record IsDigit (text left : List ℕ) (n : ℕ) : Type 0 where
+-- a byte is one more digit, and one more follows
+pub record IsDigit (byte : ℕ) (text left : List ℕ) (n : ℕ) : Type 0 where
   pub some : 1 ≤ length text
   pub rest : left ≡ take (length text - 1) (drop 1 text)
-  pub low : 48 ≤ get_or text 0 0
-  pub high : get_or text 0 0 ≤ 57
-  pub is : n + 48 ≡ get_or text 0 0
+  pub low : 48 ≤ byte
+  pub high : byte ≤ 57
+  pub is : n + 48 ≡ byte
 
-begun_is : (text left : List ℕ) (m : ℕ) → IsBegun text left m → text ≡ get_or text 0 0 ∷ get_or text 1 0 ∷ left
-begun_is text left m begun = first_two text begun.some ∙ ap (λ (t : List ℕ). get_or text 0 0 ∷ get_or text 1 0 ∷ t) (sym (left_is text left 2 begun.rest))
+begun_is : (text left : List ℕ) (m : ℕ) → IsBegun text left m → text ≡ get_or text 0 0 ∷ get_or text 1 0 ∷ get_or text 2 0 ∷ left
+begun_is text left m begun = first_three text begun.some ∙ ap (λ (t : List ℕ). get_or text 0 0 ∷ get_or text 1 0 ∷ get_or text 2 0 ∷ t) (sym (left_is text left 3 begun.rest))
 
-digit_then : (text left : List ℕ) (n : ℕ) → IsDigit text left n → text ≡ get_or text 0 0 ∷ left
-digit_then text left n one = first_is text one.some ∙ ap (λ (t : List ℕ). get_or text 0 0 ∷ t) (sym (left_is text left 1 one.rest))
+then_is : (byte : ℕ) (text left : List ℕ) (n : ℕ) → IsDigit byte text left n → text ≡ get_or text 0 0 ∷ left
+then_is byte text left n one = first_is text one.some ∙ ap (λ (t : List ℕ). get_or text 0 0 ∷ t) (sym (left_is text left 1 one.rest))
 
-begins_plain : (text left : List ℕ) (m : ℕ) (more : List ℕ) → IsBegun text left m → All IsPlain more → All IsPlain (get_or text 0 0 ∷ get_or text 1 0 ∷ more)
-begins_plain text left m more begun others =
-    All-cons IsPlain (get_or text 0 0) (get_or text 1 0 ∷ more) begun.plain (All-cons IsPlain (get_or text 1 0) more (not_blank (get_or text 1 0) begun.low begun.high) others)
+pub short_one : (text left : List ℕ) (m : ℕ) (is_last : Bool) → IsBegun text left m → EndsWord (get_or text 2 0) is_last → is_mark (get_or text 0 0) ≡ true → IsFirstShort text (get_or text 0 0) m left is_last
+short_one text left m is_last begun ends marks =
+    short text (get_or text 0 0) (get_or text 1 0 ∷ []) (get_or text 2 0) left is_last m (begun_is text left m begun) (one_byte (get_or text 1 0) (of_word (get_or text 1 0) begun.low begun.high)) ends
+    (number_of_one (get_or text 1 0) m begun.low begun.high begun.is) marks
 
-pub short_one : (text left rest : List ℕ) (m : ℕ) → IsBegun text left m → EndsWord left rest → IsFirstShort text (get_or text 0 0) m rest
-short_one text left rest m begun ends = (
-  get_or text 1 0 ∷ [],
-  ap words_of (begun_is text left m begun) ∙ first_word (get_or text 0 0) (get_or text 1 0 ∷ []) left rest (begins_plain text left m [] begun (All-nil IsPlain)) ends,
-  number_of_one (get_or text 1 0) m begun.low begun.high begun.is,
-)
+pub short_two : (text left left_2 : List ℕ) (m n : ℕ) (is_last : Bool) → IsBegun text left m → IsDigit (get_or text 2 0) left left_2 n → EndsWord (get_or left 0 0) is_last → is_mark (get_or text 0 0) ≡ true
+    → IsFirstShort text (get_or text 0 0) (m * 10 + n) left_2 is_last
+short_two text left left_2 m n is_last begun two ends marks =
+    let is : text ≡ get_or text 0 0 ∷ get_or text 1 0 ∷ get_or text 2 0 ∷ get_or left 0 0 ∷ left_2 =
+    begun_is text left m begun ∙ ap (λ (t : List ℕ). get_or text 0 0 ∷ get_or text 1 0 ∷ get_or text 2 0 ∷ t) (then_is (get_or text 2 0) left left_2 n two) in
+    let others = All-cons IsOfWord (get_or text 1 0) (get_or text 2 0 ∷ []) (of_word (get_or text 1 0) begun.low begun.high) (one_byte (get_or text 2 0) (of_word (get_or text 2 0) two.low two.high)) in
+    short text (get_or text 0 0) (get_or text 1 0 ∷ get_or text 2 0 ∷ []) (get_or left 0 0) left_2 is_last (m * 10 + n) is others ends
+    (number_of_two (get_or text 1 0) m begun.low begun.high begun.is (get_or text 2 0) n two.low two.high two.is) marks
 
-pub short_two : (text left left_2 rest : List ℕ) (m n : ℕ) → IsBegun text left m → IsDigit left left_2 n → EndsWord left_2 rest → IsFirstShort text (get_or text 0 0) (m * 10 + n) rest
-short_two text left left_2 rest m n begun two ends = (
-  get_or text 1 0 ∷ get_or left 0 0 ∷ [],
-  ap words_of (begun_is text left m begun ∙ ap (λ (t : List ℕ). get_or text 0 0 ∷ get_or text 1 0 ∷ t) (digit_then left left_2 n two))
-      ∙ first_word (get_or text 0 0) (get_or text 1 0 ∷ get_or left 0 0 ∷ []) left_2 rest (begins_plain text left m (get_or left 0 0 ∷ []) begun (one_byte (get_or left 0 0) (not_blank (get_or left 0 0) two.low two.high))) ends,
-  number_of_two (get_or text 1 0) m begun.low begun.high begun.is (get_or left 0 0) n two.low two.high two.is,
-)
-
-pub short_three : (text left left_2 left_3 rest : List ℕ) (m n k : ℕ) → IsBegun text left m → IsDigit left left_2 n → IsDigit left_2 left_3 k → EndsWord left_3 rest → IsFirstShort text (get_or text 0 0) ((m * 10 + n) * 10 + k) rest
-short_three text left left_2 left_3 rest m n k begun two three ends =
-    let second = not_blank (get_or left 0 0) two.low two.high in
-    let third = one_byte (get_or left_2 0 0) (not_blank (get_or left_2 0 0) three.low three.high) in (
-      get_or text 1 0 ∷ get_or left 0 0 ∷ get_or left_2 0 0 ∷ [],
-      ap words_of (begun_is text left m begun ∙ ap (λ (t : List ℕ). get_or text 0 0 ∷ get_or text 1 0 ∷ t) (digit_then left left_2 n two ∙ ap (λ (t : List ℕ). get_or left 0 0 ∷ t) (digit_then left_2 left_3 k three)))
-          ∙ first_word (get_or text 0 0) (get_or text 1 0 ∷ get_or left 0 0 ∷ get_or left_2 0 0 ∷ []) left_3 rest
-          (begins_plain text left m (get_or left 0 0 ∷ get_or left_2 0 0 ∷ []) begun (All-cons IsPlain (get_or left 0 0) (get_or left_2 0 0 ∷ []) second third)) ends,
-      number_of_three (get_or text 1 0) m begun.low begun.high begun.is (get_or left 0 0) n two.low two.high two.is (get_or left_2 0 0) k three.low three.high three.is,
-    )
+pub short_three : (text left left_2 left_3 : List ℕ) (m n k : ℕ) (is_last : Bool) → IsBegun text left m → IsDigit (get_or text 2 0) left left_2 n → IsDigit (get_or left 0 0) left_2 left_3 k → EndsWord (get_or left_2 0 0) is_last
+    → is_mark (get_or text 0 0) ≡ true → IsFirstShort text (get_or text 0 0) ((m * 10 + n) * 10 + k) left_3 is_last
+short_three text left left_2 left_3 m n k is_last begun two three ends marks =
+    let is : text ≡ get_or text 0 0 ∷ get_or text 1 0 ∷ get_or text 2 0 ∷ get_or left 0 0 ∷ get_or left_2 0 0 ∷ left_3 =
+    begun_is text left m begun
+    ∙ ap (λ (t : List ℕ). get_or text 0 0 ∷ get_or text 1 0 ∷ get_or text 2 0 ∷ t) (then_is (get_or text 2 0) left left_2 n two ∙ ap (λ (t : List ℕ). get_or left 0 0 ∷ t) (then_is (get_or left 0 0) left_2 left_3 k three)) in
+    let third = one_byte (get_or left 0 0) (of_word (get_or left 0 0) three.low three.high) in
+    let others = All-cons IsOfWord (get_or text 1 0) (get_or text 2 0 ∷ get_or left 0 0 ∷ []) (of_word (get_or text 1 0) begun.low begun.high)
+    (All-cons IsOfWord (get_or text 2 0) (get_or left 0 0 ∷ []) (of_word (get_or text 2 0) two.low two.high) third) in
+    short text (get_or text 0 0) (get_or text 1 0 ∷ get_or text 2 0 ∷ get_or left 0 0 ∷ []) (get_or left_2 0 0) left_3 is_last ((m * 10 + n) * 10 + k) is others ends
+    (number_of_three (get_or text 1 0) m begun.low begun.high begun.is (get_or text 2 0) n two.low two.high two.is (get_or left 0 0) k three.low three.high three.is) marks
 
 -- ---- the form that ends a load
 
@@ -162,3 +190,17 @@ begins_no_end byte text plain other =
 pub no_end_begins : (text : List ℕ) → 1 ≤ length text → is_blank (get_or text 0 0) ≡ false → nat_eq (get_or text 0 0) 101 ≡ false → has_form (words_of text) End ≡ false
 no_end_begins text some plain other =
     subst (λ (t : List ℕ). has_form (words_of t) End ≡ false) (sym (first_is text some)) (begins_no_end (get_or text 0 0) (drop 1 text) plain other)
+
+-- a text whose first word states a beat has a line first that counts and ends no load
+pub line_of_beats : (limits : Limits) (text : List ℕ) (beat : Beat) (rest : List ℕ) (is_last : Bool) → IsFirstBeat limits text beat rest is_last → IsLineOfBeats text
+unfolding words_of
+line_of_beats limits [] beat rest is_last found = absurd (omega (arith, ap length found.words))
+line_of_beats limits (byte ∷ text) beat rest is_last found =
+    let line : List ℕ = first_line (byte ∷ text) in
+    let some : nat_lt 0 (length (words_of line)) ≡ true = ap (λ (ws : List (List ℕ)). nat_lt 0 (length ws)) found.words ∙ lt-ltb 0 _ (omega arith) in
+    let no_comment : not (get_or line 0 0 == 35) ≡ true = grind (arith, nat_tests, found.first, found.read.0) in record {
+      some = omega arith;
+      counted = λ number. and_from (nat_lt 0 (length (words_of line))) (not (get_or line 0 0 == 35)) some no_comment;
+      no_end = end_alone (words_of line) (left_words rest is_last) (found.mark ∷ found.digits) found.words
+          ∙ ap (λ (b : Bool). b && (length (left_words rest is_last) == 0)) (no_end_word found.mark found.digits (grind (arith, nat_tests, found.read.0)));
+    }

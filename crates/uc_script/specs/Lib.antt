@@ -1,3 +1,4 @@
 pub mod Answers
+pub mod FirstLine
 pub mod Schedules
 pub mod Shorts

@@ -1,17 +1,23 @@
 -- The schedules of loads, read word by word.
-use Rattle.std.specs.Prelude.{◌≡◌, ℕ, ◌-◌, ◌^◌, true, false, not, List, [], ◌∷◌, ◌++◌, drop, map, min, nat_lt, slice_index, Option, Some, None, is_some, unwrap_or, Result, Ok, Err, if◌then◌else◌}
+use Rattle.std.specs.Prelude.{◌≡◌, ℕ, ◌<◌, ◌-◌, ◌^◌, Bool, true, false, not, List, [], ◌∷◌, ◌++◌, drop, length, map, min, nat_lt, slice_index, Option, Some, None, is_some, unwrap_or, Result, Ok, Err, if◌then◌else◌, IfOk}
+use Rattle.std.specs.Borrow.{Bor}
 use Rattle.std.specs.List.{list_all}
 use Rattle.rendezvous_steps.specs.declared.ends.Beat.{Beat}
 use Rattle.script_text.specs.declared.fault.ScriptCause.{ScriptCause}
 use Rattle.script_text.specs.declared.fault.ScriptCause.TheVariants.{Word, Number, Range, TooMany}
 use Rattle.script_text.specs.declared.forms.Limits.{Limits}
+use Rattle.uc_text.specs.Lines.{counts, words_of}
 use Rattle.uc_text.specs.Numbers.{number_of}
-use Rattle.script_text.specs.Forms.{is_beat, kind_of}
+use Rattle.script_text.specs.declared.forms.Form.TheVariants.{End}
+use Rattle.script_text.specs.Forms.{is_beat, kind_of, has_form}
 use Rattle.script_text.specs.Stands.{beat_with_some, beats_of}
 use Rattle.script_text.specs.Checks.{spells}
 use Rattle.script_text.specs.Within.{fits_beat, events_of}
 use Rattle.uc_script.specs.declared.answer.LineAnswer.{LineAnswer}
 use Rattle.uc_script.specs.declared.answer.LineAnswer.TheVariants.{Cause, NoMemory}
+use Rattle.uc_script.specs.declared.answer.ScriptAnswer.{ScriptAnswer}
+use Rattle.uc_script.specs.Answers.{answer_at}
+use Rattle.uc_script.specs.FirstLine.{first_line, after_line, left_words, left_text}
 
 -- the events of beats, counted up to the greatest number of 64 bits
 abbrev pub Counted : Limits → List Beat → ℕ → Type 0
@@ -47,7 +53,7 @@ schedule_fault limits beats words =
     else None
 
 -- the line adds its beats, or fails at that check
-abbrev pub IsScheduled : Limits → List (List ℕ) → List Beat → List Beat → ℕ → Result (Unit {0}) LineAnswer → Type 0
+abbrev pub IsScheduled : {A : Type 0} → Limits → List (List ℕ) → List Beat → List Beat → ℕ → Result A LineAnswer → Type 0
 IsScheduled limits words old new events (Ok _) =
     (schedule_fault limits old words ≡ None) × (new ≡ old ++ beats_of words) × Counted limits new events
 IsScheduled limits words old new events (Err (Cause cause)) = schedule_fault limits old words ≡ Some cause
@@ -58,3 +64,31 @@ IsScheduled limits words old new events (Err NoMemory) = Unit {0}
 abbrev pub LeavesSchedule : Limits → List (List ℕ) → List Beat → List (List ℕ) → List Beat → Type 0
 LeavesSchedule limits words old left beats =
     (schedule_fault limits old words ≡ schedule_fault limits beats left) × (old ++ beats_of words ≡ beats ++ beats_of left)
+
+-- the first word of a text states this beat, and this is left of its line
+pub record IsFirstBeat (limits : Limits) (text : List ℕ) (beat : Beat) (rest : List ℕ) (is_last : Bool) : Type 0 where
+  pub mark : ℕ
+  pub digits : List ℕ
+  pub words : words_of (first_line text) ≡ (mark ∷ digits) ∷ left_words rest is_last
+  pub read : IsBeatRead limits (mark ∷ digits) (Ok beat)
+  pub after : after_line text ≡ left_text rest is_last
+  pub first : slice_index (first_line text) 0 ≡ mark
+
+-- the first line of a text is none that is skipped, and does not end a load
+pub record IsLineOfBeats (text : List ℕ) : Type 0 where
+  pub some : 0 < length text
+  pub counted : (number : ℕ) → counts (number, first_line text) ≡ true
+  pub no_end : has_form (words_of (first_line text)) End ≡ false
+
+-- the first line of a text is such a line, its beats are put and what follows it is left. Or it fails at a check
+abbrev pub AddsLine : Limits → List ℕ → List Beat → List Beat → ℕ → Result (Bor (List ℕ)) LineAnswer → Type 0
+AddsLine limits text old new events added =
+    IsLineOfBeats text × IsScheduled limits (words_of (first_line text)) old new events added × IfOk added (λ rest. rest.now ≡ after_line text)
+
+-- the first of some lines that count does not end a load, and its beats are put; the others are left. Or it fails at a check
+abbrev pub AddsShortLine : Limits → List (ℕ × List ℕ) → List Beat → List (ℕ × List ℕ) → List Beat → ℕ → Result (Unit {0}) ScriptAnswer → Type 0
+AddsShortLine limits lines old left new events (Ok _) =
+    (line : ℕ × List ℕ) × (lines ≡ line ∷ left) × (has_form (words_of line.1) End ≡ false) × IsScheduled {A = Unit {0}} limits (words_of line.1) old new events (Ok tt)
+AddsShortLine limits lines old left new events (Err answer) =
+    (line : ℕ × List ℕ) × (more : List (ℕ × List ℕ)) × (why : LineAnswer) × (lines ≡ line ∷ more) × (has_form (words_of line.1) End ≡ false)
+    × IsScheduled {A = Unit {0}} limits (words_of line.1) old new events (Err why) × (answer ≡ answer_at line.0 why)

@@ -1,11 +1,13 @@
 //! The schedules of loads.
-ghost use Rattle.std.specs.Prelude.{◌≡◌, drop, slice_index, IfOk, OnOk};
+ghost use Rattle.std.specs.Prelude.{◌≡◌, drop, slice_index, IfOk, IfSome, MatchOption};
 ghost use Rattle.uc_text.specs.Lines.{words_of};
 ghost use Rattle.script_text.specs.Forms.{is_beat};
 ghost use Rattle.script_text.specs.Within.{fits_beat, events_of_beat};
-ghost use Rattle.uc_script.specs.Schedules.{IsBeatOf, IsNextBeat, IsScheduled, LeavesSchedule, Counted};
+ghost use Rattle.uc_script.specs.FirstLine.{left_words, left_text};
+ghost use Rattle.uc_script.specs.Schedules.{IsBeatOf, IsNextBeat, IsScheduled, Counted, IsFirstBeat, AddsLine};
 
 use crate::answer::LineAnswer;
+use crate::rest::split_line;
 use crate::shorts::first_short;
 use rendezvous_steps::Beat;
 use script_text::{BeatKind, Beats, Limits, ScriptCause};
@@ -15,49 +17,84 @@ use uc_text::{Words, number};
 /// The events that one load may have.
 const MOST_EVENTS: u64 = 4_194_304;
 
-/// Puts the beats of a line behind those of its load, whose events are counted.
-pub fn add_beats(
-    limits: Limits,
-    line: &[u8],
-    beats: &mut Beats,
-    events: &mut u64,
-) -> Result<(), LineAnswer>
-    requires { Counted limits beats.old events.old }
-    ensures { IsScheduled limits (words_of line.now) beats.old beats.new events.new result }
-{
-    let rest = add_short_beats(limits, line, beats, events)?;
-    if rest.is_empty() && *events <= MOST_EVENTS {
-        return Ok(());
-    }
-    add_other_beats(limits, rest, beats, events)
+/// A beat that the first word of a text states, what follows the word and the byte behind it, and whether that byte ends
+/// the line.
+#[derive(Clone, Copy, Debug)]
+struct FirstBeat<'a> {
+    beat: Beat,
+    rest: &'a [u8],
+    is_last: bool,
 }
 
-/// Puts the beats of short words at the front of a line behind those of its load, up to a word that is not short or that
-/// a check fails at, and returns what is left of the line. Most lines of a schedule have short words alone.
-fn add_short_beats<'a>(
+/// The beat of the first word of a text, where the word is short and states one.
+#[inline(always)]
+fn first_beat(limits: Limits, text: &[u8]) -> Option<FirstBeat<'_>>
+    ensures { IfSome result (λ first. IsFirstBeat limits text.now first.beat first.rest.now first.is_last) }
+{
+    let word = first_short(text)?;
+    match read_beat(limits, word.mark, Some(u64::from(word.number))) {
+        Ok(beat) => Some(FirstBeat {
+            beat,
+            rest: word.rest,
+            is_last: word.is_last,
+        }),
+        Err(_) => None,
+    }
+}
+
+/// Puts the beats of the first line of a text behind those of its load, whose events are counted, and returns what follows
+/// the line, where it begins with a short word that states a beat. Where it doesn't, nothing is taken.
+#[inline(always)]
+pub fn add_line<'a>(
     limits: Limits,
-    line: &'a [u8],
+    text: &'a [u8],
     beats: &mut Beats,
     events: &mut u64,
-) -> Result<&'a [u8], NoMemory>
+) -> Option<Result<&'a [u8], LineAnswer>>
     requires { Counted limits beats.old events.old }
-    ensures leaves { IfOk result (λ rest. LeavesSchedule limits (words_of line.now) beats.old (words_of rest.now) beats.new) }
-    ensures counted { OnOk result (Counted limits beats.new events.new) }
+    ensures { MatchOption result ((beats.new ≡ beats.old) × (events.new ≡ events.old)) (AddsLine limits text.now beats.old beats.new events.new) }
 {
-    let mut rest = line;
-    while let Some(word) = first_short(rest) {
-        let Ok(beat) = read_beat(limits, word.mark, Some(u64::from(word.number))) else {
+    let first = first_beat(limits, text)?;
+    *events = events.saturating_add(events_of(limits, first.beat));
+    match beats.push(first.beat) {
+        Ok(()) => Some(add_words(limits, first.rest, first.is_last, beats, events)),
+        Err(NoMemory) => Some(Err(LineAnswer::NoMemory)),
+    }
+}
+
+/// Puts the beats of what is left of a line behind those of its load, and returns what follows the line.
+#[inline(always)]
+fn add_words<'a>(
+    limits: Limits,
+    text: &'a [u8],
+    is_done: bool,
+    beats: &mut Beats,
+    events: &mut u64,
+) -> Result<&'a [u8], LineAnswer>
+    requires { Counted limits beats.old events.old }
+    ensures scheduled { IsScheduled limits (left_words text.now is_done) beats.old beats.new events.new result }
+    ensures rest { IfOk result (λ rest. rest.now ≡ left_text text.now is_done) }
+{
+    let (mut rest, mut is_done) = (text, is_done);
+    while !is_done {
+        let Some(first) = first_beat(limits, rest) else {
+            let (line, rest) = split_line(rest);
+            add_beats(limits, line, beats, events)?;
             return Ok(rest);
         };
-        *events = events.saturating_add(events_of(limits, beat));
-        beats.push(beat)?;
-        rest = word.rest;
+        *events = events.saturating_add(events_of(limits, first.beat));
+        beats.push(first.beat)?;
+        rest = first.rest;
+        is_done = first.is_last;
+    }
+    if *events > MOST_EVENTS {
+        return Err(LineAnswer::Cause(ScriptCause::TooMany));
     }
     Ok(rest)
 }
 
-/// Puts the beats of any words behind those of their load.
-fn add_other_beats(
+/// Puts the beats of a line behind those of its load, whose events are counted.
+pub fn add_beats(
     limits: Limits,
     line: &[u8],
     beats: &mut Beats,

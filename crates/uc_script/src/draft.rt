@@ -10,13 +10,14 @@ use crate::beats::add_beats;
 use crate::forms::{form_of, is_end};
 use crate::names::names_of;
 use crate::numbers::{stated_below, stated_number};
+use crate::rest::Rest;
 use script_text::{
     Beats, Command, Form, Limits, OpenLoad, Place, Script, ScriptCause, ScriptFault,
 };
 use std::alloc::Global;
 use std::marker::Model;
 use uc_bytes::NoMemory;
-use uc_text::{Line, Lines};
+use uc_text::Line;
 
 /// The commands that a script may have.
 const MOST_COMMANDS: usize = 4_096;
@@ -66,7 +67,7 @@ impl Draft {
         &mut self,
         limits: Limits,
         line: &Line,
-        lines: &mut Lines,
+        lines: &mut Rest,
     ) -> Result<(), ScriptAnswer>
         ensures { GoesOn limits self.old ((line.now.number, line.now.text.now) ∷ filter counts lines.old) self.new (filter counts lines.new) result }
     {
@@ -173,7 +174,7 @@ impl Draft {
         limits: Limits,
         line: &Line,
         force: bool,
-        lines: &mut Lines,
+        lines: &mut Rest,
     ) -> Result<(), ScriptAnswer>
         requires { list_all is_utf8 (drop 1 (words_of line.now.text.now)) ≡ true }
         ensures { AddsLoad limits self.old line.now.number force (drop 1 (words_of line.now.text.now)) (filter counts lines.old) self.new (filter counts lines.new) result }
@@ -199,14 +200,22 @@ impl Draft {
         &mut self,
         limits: Limits,
         load: OpenLoad,
-        lines: &mut Lines,
+        lines: &mut Rest,
     ) -> Result<(), ScriptAnswer>
         requires { load.beats ≡ [] }
         ensures { GoesOn limits (record self.old { place = InLoad; load = load }) (filter counts lines.old) self.new (filter counts lines.new) result }
     {
         let mut load = load;
         let mut events = 0;
-        while let Some(line) = lines.next_counted() {
+        loop {
+            match lines.add_short_line(limits, &mut load.beats, &mut events) {
+                Some(Ok(())) => continue,
+                Some(Err(answer)) => return Err(answer),
+                None => {}
+            }
+            let Some(line) = lines.next_counted() else {
+                return Err(fault_at(load.line, ScriptCause::NoEnd));
+            };
             if is_end(line.text) {
                 return self.end_load(load);
             }
@@ -215,7 +224,6 @@ impl Draft {
                 Err(answer) => return Err(answer.at(line.number)),
             }
         }
-        Err(fault_at(load.line, ScriptCause::NoEnd))
     }
 
     /// Makes a load a command.

@@ -10,6 +10,7 @@ mod forms;
 mod names;
 mod numbers;
 mod reading;
+mod rest;
 mod shorts;
 
 pub use answer::ScriptAnswer;

@@ -6,9 +6,9 @@ ghost use Rattle.uc_script.specs.Answers.{IfFault, IsRead};
 
 use crate::answer::ScriptAnswer;
 use crate::draft::Draft;
+use crate::rest::Rest;
 use script_text::{Limits, Script};
 use std::alloc::Global;
-use uc_text::Lines;
 
 /// The script that a text states for a machine of so many threads and cores, or the first fault. The text has at most
 /// 16,777,216 bytes. Lines without words, and those that begin with `#`, are skipped. The first line is `ucode-script 1`;
@@ -33,7 +33,7 @@ fn read(alloc: Global, bytes: &[u8], limits: Limits) -> Result<Script, ScriptAns
     requires { length bytes.now ≤ 16777216 }
     ensures { IsRead (reading limits bytes.now) result }
 {
-    let mut lines = Lines::new(bytes);
+    let mut lines = Rest::new(bytes);
     let mut draft = Draft::new(alloc);
     while let Some(line) = lines.next_counted() {
         match draft.add_line(limits, &line, &mut lines) {

@@ -1,61 +1,76 @@
 //! Short words: one byte, and one to three decimal digits. Most words of a schedule are.
-ghost use Rattle.std.specs.Prelude.{◌≡◌, IfSome};
+ghost use Rattle.std.specs.Prelude.{◌≡◌, true, IfSome};
 ghost use Rattle.uc_text.specs.Lines.{is_blank};
-ghost use Rattle.uc_script.specs.Shorts.{IsFirstShort, EndsWord};
+ghost use Rattle.uc_script.specs.Shorts.{IsFirstShort, EndsWord, is_mark};
 
-/// A short word at the front of a text, and what follows it and the blank behind it.
+/// A short word at the front of a text, what follows it and the byte behind it, and whether that byte ends the line.
 #[derive(Clone, Copy, Debug)]
 pub struct Short<'a> {
     pub mark: u8,
     pub number: u16,
     pub rest: &'a [u8],
+    pub is_last: bool,
 }
 
-/// The first word of a text, where it is short and begins the text.
+/// The first word of a text, where it is short, begins the text, and a blank or LF stands behind it.
 #[inline(always)]
 pub fn first_short(text: &[u8]) -> Option<Short<'_>>
-    ensures { IfSome result (λ word. IsFirstShort text.now word.mark word.number word.rest.now) }
+    ensures { IfSome result (λ word. is_mark word.mark ≡ true → IsFirstShort text.now word.mark word.number word.rest.now word.is_last) }
 {
-    let [mark, one, text @ ..] = text else {
+    let [mark, one, after, rest @ ..] = text else {
         return None;
     };
-    if is_blank(*mark) || *one < b'0' || *one > b'9' {
+    if *one < b'0' || *one > b'9' {
         return None;
     }
     let (mark, number) = (*mark, u16::from(*one - b'0'));
-    if let Some(rest) = after_word(text) {
-        return Some(Short { mark, number, rest });
+    if let Some(is_last) = ends_word(*after) {
+        return Some(Short {
+            mark,
+            number,
+            rest,
+            is_last,
+        });
     }
-    let [two, text @ ..] = text else {
+    let (two, [after, rest @ ..]) = (*after, rest) else {
         return None;
     };
-    if *two < b'0' || *two > b'9' {
+    if two < b'0' || two > b'9' {
         return None;
     }
-    let number = number * 10 + u16::from(*two - b'0');
-    if let Some(rest) = after_word(text) {
-        return Some(Short { mark, number, rest });
+    let number = number * 10 + u16::from(two - b'0');
+    if let Some(is_last) = ends_word(*after) {
+        return Some(Short {
+            mark,
+            number,
+            rest,
+            is_last,
+        });
     }
-    let [three, text @ ..] = text else {
+    let (three, [after, rest @ ..]) = (*after, rest) else {
         return None;
     };
-    if *three < b'0' || *three > b'9' {
+    if three < b'0' || three > b'9' {
         return None;
     }
-    let number = number * 10 + u16::from(*three - b'0');
-    let rest = after_word(text)?;
-    Some(Short { mark, number, rest })
+    let number = number * 10 + u16::from(three - b'0');
+    let is_last = ends_word(*after)?;
+    Some(Short {
+        mark,
+        number,
+        rest,
+        is_last,
+    })
 }
 
-/// What follows a word that ends before this text: the text after one blank, or none at the end. `None` where the word
-/// goes on.
+/// Whether a byte behind a word ends the line too, where it ends the word.
 #[inline(always)]
-fn after_word(text: &[u8]) -> Option<&[u8]>
-    ensures { IfSome result (λ rest. EndsWord text.now rest.now) }
+fn ends_word(byte: u8) -> Option<bool>
+    ensures { IfSome result (EndsWord byte) }
 {
-    match text {
-        [] => Some(text),
-        [byte, rest @ ..] if is_blank(*byte) => Some(rest),
+    match byte {
+        b' ' | b'\t' => Some(false),
+        b'\n' => Some(true),
         _ => None,
     }
 }

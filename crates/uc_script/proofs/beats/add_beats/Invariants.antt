@@ -1,7 +1,7 @@
 use Rattle.std.proofs.Common.{length}
 use Rattle.uc_text.specs.Lines.{words_of}
 use Rattle.uc_script.proofs.Scheduled.{IsScheduledSoFar}
-use Rattle.uc_script.proofs.beats.add_other_beats.Given as goal
+use Rattle.uc_script.proofs.beats.add_beats.Given as goal
 
 abbrev pub invariant-loop-read : goal.invariant-loop-read
 invariant-loop-read l = IsScheduledSoFar l.limits (words_of l.line) l.fn.beats l.words l.beats l.events l.spelled l.in_range
