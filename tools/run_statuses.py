@@ -1,5 +1,5 @@
 #!/usr/bin/env python3
-"""Runs a built `ucode` where it ends with each of the statuses 0 to 5, and compares what it says.
+"""Runs a built `ucode` where it ends with each of the statuses 0 to 6, and compares what it says.
 
     tools/run_statuses.py PATH
 
@@ -22,6 +22,34 @@ file 0 d.bin intel 1
 FORMS = "usage: ucode list FILE.. | "
 LOST = "ucode: not all of the output could be written"
 SESSION = "at-the-limit"
+# Thread 1 waits too long for the primary of its core, and halts; the boot behind the load is not run.
+HALTS = b"ucode-script 1\nboot\nload a.bin\ns0 s1 s0 s1 s1 s0 s0 s0 t1 s0 s0 s0 s0 s0\nend\nboot\n"
+HALTED = b"""\
+command 1 boot
+up 0 rev 0x000000b4
+up 1 rev 0x000000b4
+answer done
+command 2 load
+offer core 0 entry 0 len 64 rev 0x000000f0
+0 enter
+1 enter
+0 arrive
+1 arrive
+1 go
+0 inner
+0 inner
+0 begin 0
+1 halt
+0 wrote 0 0x000000f0
+0 inner
+0 report 0 updated
+0 inner
+0 leave updated
+cpu 0 updated
+cpu 1 halted
+core 0 rev 0x000000f0
+answer panicked 1
+"""
 
 
 def read(path):
@@ -49,6 +77,7 @@ def cases():
         (["show", "d.bin", "1"], 2, b"error entry 1\n", None),
         (["play", "machine.topology", "short.bin"], 2, b"error script line 1 head\n", None),
         (["play", "machine.topology", SESSION + ".script"], 3, session, None),
+        (["play", "machine.topology", "halts.script"], 6, HALTED, None),
         (["list", "missing.bin"], 4, b"error read missing.bin\n", "ucode: missing.bin: "),
         (["list", "d.bin", "folder"], 4, b"error read folder\n", "ucode: folder: "),
         (["list", ""], 4, b"error read \n", "ucode: : "),
@@ -62,6 +91,7 @@ def fill(folder):
     put(folder, "d.bin", sample)
     put(folder, "long.bin", 1000 * sample)
     put(folder, "short.bin", b"abc\n")
+    put(folder, "halts.script", HALTS)
     os.mkdir(os.path.join(folder, "folder"))
     put(folder, "machine.topology", read(os.path.join(EXAMPLES, "two-threads.topology")))
     for name in (SESSION + ".script", "a.bin"):

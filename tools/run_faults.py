@@ -1,0 +1,194 @@
+#!/usr/bin/env python3
+"""Runs a built `ucode` on files that fail each check, at each bound and one past it, and compares what it says.
+
+    tools/run_faults.py PATH
+
+Each case is a sound input with a few words or bytes changed. Where two checks fail the first in the order of
+docs/FORMATS.md is named. Standard output and the status are compared. The status is 0 where all is as it should be, 1
+where something is not, 2 for faulty words.
+"""
+import argparse
+import os
+import struct
+import subprocess
+import sys
+import tempfile
+
+# An Intel update of 108 bytes: the header's twelve words, four of data, and a table of two entries.
+UPDATE = [1, 0xF0, 0x07112023, 0x000906EA, 0xF8E5D783, 1, 2, 16, 108, 0, 0, 0, 0, 0, 0, 0,
+          2, 0x0E224320, 0, 0, 0, 0x000906EB, 2, 0xF8E5D782, 0x000906EC, 0x22, 0xF8E5D761]
+# Words that are changed, by their places, the length of the file, and where and why it is refused, if it is.
+UPDATES = [
+    ({}, 0, None), ({7: 1}, 47, "0 short"), ({}, 48, "0 truncated"), ({}, 107, "0 truncated"), ({}, 108, None),
+    ({}, 109, "108 short"), ({}, 156, "108 version"),
+    ({7: 18}, 108, "0 size-unaligned"), ({7: 5, 8: 44}, 108, "0 size-unaligned"), ({8: 106}, 108, "0 size-unaligned"),
+    ({8: 0}, 108, "0 total-small"), ({7: 4, 8: 44}, 108, "0 total-small"), ({7: 4, 8: 48}, 108, "0 data-past-total"),
+    ({0: 2, 7: 64}, 108, "0 data-past-total"), ({4: 0xF8E5D757, 7: 60}, 108, None),
+    ({0: 0}, 108, "0 version"), ({0: 2}, 48, "0 version"), ({5: 0}, 108, "0 version"), ({5: 2}, 107, "0 version"),
+    ({4: 0xF8E5D7FF, 7: 0, 8: 0}, 2048, None), ({4: 0xF8E5D793, 7: 0}, 2048, None), ({7: 0}, 2047, "0 truncated"),
+    ({8: 80}, 79, "0 truncated"), ({8: 68}, 68, "0 ext-cut"), ({8: 80}, 80, "0 ext-cut"),
+    ({4: 0xF8E5D79B, 8: 84, 16: 0, 17: 0}, 84, None), ({8: 84, 16: 1}, 84, "0 ext-count"),
+    ({8: 92, 16: 0x15555556}, 92, "0 ext-count"), ({16: 1}, 108, "0 ext-count"), ({16: 3}, 108, "0 ext-count"),
+    ({16: 0x40000002}, 108, "0 ext-count"), ({18: 1}, 108, "0 ext-sum"), ({26: 0xF8E5D762}, 108, "0 ext-sum"),
+    ({17: 0x0E22431F, 26: 0xF8E5D762, 1: 0xF1}, 108, "0 entry-sum 1"),
+    ({17: 0x0E22431E, 23: 0xF8E5D783, 26: 0xF8E5D762}, 108, "0 entry-sum 0"),
+    ({1: 0xF1}, 108, "0 sum"), ({12: 1}, 108, "0 sum"), ({15: 0x80000000}, 108, "0 sum"),
+]
+# A container of 116 bytes: its head, a row and a row of zeros, a section's head, and a patch of 64 bytes.
+MAGIC = 0x00414D44
+CONTAINER = [MAGIC, 0, 32, 0x00A20F10, 0, 0, 0xA210, 0, 0, 0, 0, 1, 64,
+             0, 0x0A20102B, 0, 0, 0, 0, 0xA210, 0, 0, 0, 0, 0, 0, 0, 0, 0]
+CONTAINERS = [
+    ({}, 3, "0 short"), ({}, 4, "0 equiv-short"), ({1: 1}, 11, "0 equiv-short"),
+    ({1: 1, 2: 15}, 12, "0 equiv-type"), ({1: 0x80000000}, 116, "0 equiv-type"),
+    ({2: 15}, 12, "0 table-small"), ({2: 0}, 116, "0 table-small"), ({2: 16}, 27, "0 table-cut"), ({2: 16}, 28, None),
+    ({2: 17}, 28, "0 table-cut"), ({2: 104}, 116, None), ({2: 105}, 116, "0 table-cut"),
+    ({2: 0xFFFFFFFF}, 116, "0 table-cut"), ({}, 44, None), ({11: 2}, 51, "44 section-short"),
+    ({11: 2, 12: 63}, 52, "44 section-type"), ({11: 0}, 116, "44 section-type"),
+    ({12: 63}, 52, "44 patch-small"), ({12: 0}, 116, "44 patch-small"), ({17: 1}, 115, "44 patch-cut"),
+    ({}, 116, None), ({12: 65}, 116, "44 patch-cut"), ({12: 65}, 117, None), ({12: 0xFFFFFFFF}, 116, "44 patch-cut"),
+    ({12: 2048, 19: 0x1022}, 2100, None), ({12: 2049, 19: 0x1022, 17: 1}, 2101, "44 family-size"),
+    ({12: 2048, 19: 0x2022}, 2100, None), ({12: 2049, 19: 0x2022}, 2101, "44 family-size"),
+    ({12: 2048, 19: 0x3022}, 2100, None), ({12: 2049, 19: 0x3022}, 2101, "44 family-size"),
+    ({12: 1824, 19: 0x5022}, 1876, None), ({12: 1825, 19: 0x5022}, 1877, "44 family-size"),
+    ({12: 1825, 19: 0x5022}, 1876, "44 patch-cut"),
+    ({12: 2049, 19: 0x0F48}, 2101, None), ({12: 2049, 19: 0x4022}, 2101, None), ({12: 2049, 19: 0x6022}, 2101, None),
+    ({17: 1}, 116, "44 chipset"), ({18: 1}, 116, "44 chipset"), ({17: 0x80000000}, 116, "44 chipset"),
+    ({16: 1, 20: 1}, 116, None), ({}, 117, "116 section-short"), ({}, 124, "116 section-type"),
+    ({11: MAGIC}, 47, "44 section-short"), ({11: MAGIC}, 48, "44 equiv-short"),
+    ({11: MAGIC, 12: 1}, 56, "44 equiv-type"), ({11: MAGIC, 12: 0, 13: 15}, 56, "44 table-small"),
+]
+HEAD = "ucode-topology 1\nvendor intel\n"
+PACKAGES = "ucode-topology 2\nvendor intel\ncore 0 package 0 sig 1 flags 2 rev 3\n"
+CORE = "core 0 sig 0x906ea flags 0x2 rev 0xb4\n"
+CPU = "cpu 0 core 0\n"
+# Topologies, and at which line and why they are refused, if they are.
+TOPOLOGIES = [
+    ("", "0 head"), ("# a comment\n", "0 head"), ("ucode-topology 01\n", "1 head"), ("ucode-topology 3\n", "1 head"),
+    ("ucode-topology 1\n", "0 word"), ("ucode-topology 1\nvendor via\n", "2 word"),
+    (HEAD + "core 0 sig 1 rev 3\n", "3 word"),
+    (HEAD + "core x sig y flags 0 rev\n", "3 word"), (HEAD + "core 1 sig 0x100000000 flags 0 rev 0\n", "3 number"),
+    (HEAD + CORE + "cpu 65536 core 0\n", "4 number"), (HEAD + CORE + "cpu 65535 core 0\n", "4 order"),
+    (HEAD + CORE + "cpu 1 core 9\n", "4 order"), (HEAD + CORE + "cpu 0 core 1\n", "4 no-core"),
+    (HEAD + "core 65535 sig 1 flags 0 rev 0\n", "3 order"), (HEAD + "core 65536 sig 1 flags 0 rev 0\n", "3 number"),
+    (HEAD + CORE, "0 empty-core"), (HEAD, "0 empty-core"),
+    (HEAD + "\n# a comment\n" + CORE + "\t cpu  0 core 0\r\n", None),
+    (PACKAGES + "core 1 package 2 sig 9 flags 9 rev 9\n", "4 order"),
+    (PACKAGES + "core 1 package 0 sig 9 flags 2 rev 3\n", "4 disagree"),
+    (PACKAGES + "core 1 package 0 sig 1 flags 9 rev 3\n", "4 disagree"),
+    (PACKAGES + "core 1 package 0 sig 1 flags 2 rev 9\n", "4 disagree"),
+    (PACKAGES + "core 1 package 65536 sig 1 flags 2 rev 3\n", "4 number"),
+    (PACKAGES + "core 1 package 65535 sig 1 flags 2 rev 3\n", "4 order"),
+    (PACKAGES + "core 1 package 1 sig 4 flags 5 rev 6\ncpu 0 core 0\ncpu 1 core 1\n", None),
+]
+SCRIPT = "ucode-script 1\n"
+# Scripts for one core with one thread, and at which line and why they are refused, if they are.
+SCRIPTS = [
+    ("", "0 head"), ("ucode-script 2\n", "1 head"), (SCRIPT, None), (SCRIPT + "boot x\npool 1\n", "3 word"),
+    (SCRIPT + "online 0 x\n", "2 word"), (SCRIPT + "online x\n", "2 number"), (SCRIPT + "online 1\n", "2 range"),
+    (SCRIPT + "refuse 1\n", "2 range"), (SCRIPT + "pool 0\n", "2 range"), (SCRIPT + "pool 65537\n", "2 range"),
+    (SCRIPT + "pool 65536\n", None), (SCRIPT + "pool 1\n", None), (SCRIPT + "patience 4294967296\n", "2 range"),
+    (SCRIPT + "patience 4294967295\n", None), (SCRIPT + "patience 18446744073709551616\n", "2 number"),
+    (SCRIPT + "load a\ns1\nend\n", "3 range"), (SCRIPT + "load a\ns1 sx\nend\n", "3 number"),
+    (SCRIPT + "load a\ns1 sx x\nend\n", "3 word"), (SCRIPT + "load a\n*0\nend\n", "3 range"),
+    (SCRIPT + "load a\n*65536\nend\n", "3 range"), (SCRIPT + "load a\n*65535\n", "2 no-end"),
+    (SCRIPT + "load a\nsuspend\nend\n", "3 number"), (SCRIPT + "load a\nboot\nend\n", "3 word"),
+    (SCRIPT + "boot" + 17 * " x" + "\n", "2 word"), (SCRIPT + "load\n", "2 word"),
+    (SCRIPT + "load a\n" + 64 * "*65535\n" + "*64\nend\n", None),
+    (SCRIPT + "load a\n" + 64 * "*65535\n" + "*64 s0\nend\n", "67 too-many"),
+    (SCRIPT + 4096 * "accept 0\n", None), (SCRIPT + 4097 * "accept 0\n", "4098 too-many"),
+]
+
+
+def changed(words, changes, length):
+    """The words with some of them changed, cut or with zeros behind them up to a length."""
+    words = [changes.get(place, word) for place, word in enumerate(words)]
+    return struct.pack(f"<{len(words)}I", *words).ljust(length, b"\0")[:length]
+
+
+def text_of(name, fault):
+    """What is written on a refusal, or None where what is written does not matter."""
+    return fault and f"error {name} {fault}\n".encode()
+
+
+def file_cases():
+    """The words of the command line, its files, the status, and the text, or None where any will do."""
+    for words, cases in ((UPDATE, UPDATES), (CONTAINER, CONTAINERS)):
+        for changes, length, fault in cases:
+            yield ["list", "f"], {"f": changed(words, changes, length)}, 2 if fault else 0, text_of("file f at", fault)
+    update = changed(UPDATE, {8: 64, 4: 0xF8E5D7AF}, 64)
+    head, section = changed(CONTAINER, {2: 16}, 28), changed(CONTAINER[11:], {}, 72)
+    for one, most, front, place in ((update, 65536, b"", 0), (section, 65536, head, 28)):
+        yield ["list", "f"], {"f": front + most * one}, 0, None
+        fault = f"{place + most * len(one)} too-many"
+        yield ["list", "f"], {"f": front + (most + 1) * one}, 2, text_of("file f at", fault)
+
+
+def text_cases():
+    files = {"t": (HEAD + CORE + CPU).encode(), "e": b""}
+    for text, fault in TOPOLOGIES:
+        yield ["select", "t", "e"], {**files, "t": text.encode()}, 2 if fault else 0, text_of("topology line", fault)
+    for kind, line in (("core", CORE[6:]), ("cpu", "core 0\n")):
+        for count, fault in ((256, None), (257, f"{259 + (kind == 'cpu')} too-many")):
+            front = CORE if kind == "cpu" else ""
+            lines = "".join(f"{kind} {n} {line.lstrip()}" for n in range(count))
+            back = "".join(f"cpu {n} core {n}\n" for n in range(256)) if kind == "core" else ""
+            topology = (HEAD + front + lines + back).encode()
+            yield ["select", "t", "e"], {**files, "t": topology}, 2 if fault else 0, text_of("topology line", fault)
+    for text, fault in SCRIPTS:
+        yield ["play", "t", "s"], {**files, "s": text.encode()}, 2 if fault else None, text_of("script line", fault)
+
+
+def limit_cases():
+    topology, script = (HEAD + CORE + CPU).encode(), SCRIPT.encode()
+    files = {"t": topology, "e": b""}
+    yield ["list", "f"], {"f": bytes(67108864)}, 2, b"error file f at 0 version\n"
+    yield ["list", "f"], {"f": bytes(67108865)}, 2, b"error file f at 67108864 too-long\n"
+    yield ["select", "t", "e"], {**files, "t": topology.ljust(1048576, b"#")}, 0, None
+    yield ["select", "t", "e"], {**files, "t": topology.ljust(1048577, b"#")}, 2, b"error topology line 0 too-long\n"
+    yield ["play", "t", "s"], {**files, "s": script.ljust(16777216, b"#")}, 0, b""
+    yield ["play", "t", "s"], {**files, "s": script.ljust(16777217, b"#")}, 2, b"error script line 0 too-long\n"
+    yield ["list", *16 * ["e"]], files, 0, None
+    yield ["list", *17 * ["e"]], files, 1, b"usage 17\n"
+    yield ["select", "t", *16 * ["e"]], files, 0, None
+    yield ["select", "t", *17 * ["e"]], files, 1, b"usage 18\n"
+    yield ["show", "e", "18446744073709551615"], files, 2, b"error entry 18446744073709551615\n"
+    yield ["show", "e", "18446744073709551616"], files, 1, b"usage 2\n"
+    yield ["gen", "18446744073709551616"], files, 1, b"usage 1\n"
+
+
+def fault_of(program, words, files, status, text):
+    """What is wrong with how a run ended, or None."""
+    with tempfile.TemporaryDirectory() as folder:
+        for name, data in files.items():
+            with open(os.path.join(folder, name), "wb") as file:
+                file.write(data)
+        done = subprocess.run([program, *words], cwd=folder, stdin=subprocess.DEVNULL, stdout=subprocess.PIPE,
+                              stderr=subprocess.DEVNULL, timeout=60)
+    if status is not None and done.returncode != status:
+        return f"ends with status {done.returncode} and should with {status}"
+    if text is not None and done.stdout != text:
+        return f"writes {done.stdout[:200]!r} and should write {text!r}"
+    if text is None and done.stdout.startswith(b"error "):
+        return f"writes {done.stdout[:200]!r} and should refuse nothing"
+    return None
+
+
+def main():
+    parser = argparse.ArgumentParser(description="Runs a built `ucode` on files that fail each check, and compares.")
+    parser.add_argument("program", metavar="PATH", help="the built program")
+    program = os.path.abspath(parser.parse_args().program)
+    faults = runs = 0
+    for cases in (file_cases, text_cases, limit_cases):
+        for number, (words, files, status, text) in enumerate(cases()):
+            runs += 1
+            fault = fault_of(program, words, files, status, text)
+            if fault:
+                faults += 1
+                print(f"{cases.__name__} {number}, {words}: {fault}", file=sys.stderr)
+    print(f"faults: {runs - faults} of {runs} runs as they should be")
+    sys.exit(1 if faults else 0)
+
+
+if __name__ == "__main__":
+    main()
