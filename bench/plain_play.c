@@ -1,7 +1,11 @@
 /* Plays a session as `ucode play TOPOLOGY SCRIPT` and `ucode gen NUMBER` do, and prints the same bytes: plain C that
-   makes the same checks, without a contract. What it prints is handed on in blocks of 65,536 bytes. */
+   makes the same checks, without a contract. What it prints is handed on in blocks of 65,536 bytes. Compiled with LIVE,
+   its `play` does what `ucode_live TOPOLOGY SCRIPT` does, and hands on behind each command. */
 #include "plain_text.h"
 #include "plain_files.h"
+#ifdef LIVE
+#include "live_rounds.h"
+#endif
 
 /* ---- The region of patches, in the order of their blocks ---- */
 
@@ -292,7 +296,12 @@ static enum status load(const struct command *command) {
     }
     say_offers();
     make_plan(takes_part);
+#ifdef LIVE
+    patience = script.patience;
+    play_live();
+#else
     play(script.beats + command->from, command->beats);
+#endif
     for (int g = 0; g < plan.groups; g++) {
         revision[g] = now.rev[g];
         if (plan.offered[g] && revision[g] == plan.offer[g]) {
@@ -344,6 +353,9 @@ static enum status run_session(void) {
         }
         say("\n");
         enum status status = run_command(command);
+#ifdef LIVE
+        hand_on(held);
+#endif
         if (status != DONE) {
             return status;
         }
