@@ -51,14 +51,15 @@ pub fn set_out<F: Files>(
     if let Some(t) = parts.first_missing() {
         return Err(Stop::Answer(LoadAnswer::Busy(t)));
     }
-    match read_files(alloc, Catalog::new(alloc), names, files) {
-        Ok(catalog) => set_out_from(parts, force, catalog),
-        Err(FilesAnswer::Unread(file)) => Err(Stop::Answer(LoadAnswer::ReadFault(file))),
+    let catalog = match read_files(alloc, Catalog::new(alloc), names, files) {
+        Ok(catalog) => catalog,
+        Err(FilesAnswer::Unread(file)) => return Err(Stop::Answer(LoadAnswer::ReadFault(file))),
         Err(FilesAnswer::Refused(file, fault)) => {
-            Err(Stop::Answer(LoadAnswer::BadFile(file, fault)))
+            return Err(Stop::Answer(LoadAnswer::BadFile(file, fault)));
         }
-        Err(FilesAnswer::NoMemory) => Err(Stop::NoMemory),
-    }
+        Err(FilesAnswer::NoMemory) => return Err(Stop::NoMemory),
+    };
+    set_out_from(parts, force, catalog)
 }
 
 /// Whether some group is offered anything.
@@ -76,16 +77,16 @@ fn set_out_from(parts: &mut Parts, force: bool, catalog: Catalog) -> Result<Read
     ensures setting { setting_of parts.new ≡ setting_of parts.old }
 {
     let offers = parts.load_offers(&catalog, force);
-    if something_offered(offers.as_slice()) {
-        match parts.put_load(&catalog, offers.as_slice()) {
-            Ok(places) => Ok(Ready {
-                catalog,
-                offers,
-                places,
-            }),
-            Err(full) => Err(Stop::Answer(LoadAnswer::PoolFull(full.needed))),
-        }
-    } else {
-        Err(Stop::Answer(LoadAnswer::NotFound))
+    if !something_offered(offers.as_slice()) {
+        return Err(Stop::Answer(LoadAnswer::NotFound));
     }
+    let places = match parts.put_load(&catalog, offers.as_slice()) {
+        Ok(places) => places,
+        Err(full) => return Err(Stop::Answer(LoadAnswer::PoolFull(full.needed))),
+    };
+    Ok(Ready {
+        catalog,
+        offers,
+        places,
+    })
 }
