@@ -4,8 +4,8 @@ use Rattle.session_parts.specs.Parts.{setting_of, state_of}
 use Rattle.uc_session.proofs.Stopping.{goes_on}
 use Rattle.uc_session.proofs.setting_out.set_out.Goals as goal
 
-pub returns-in-Ok-clause-answer : goal.returns-in-Ok-clause-answer
-returns-in-Ok-clause-answer g c =
+pub returns-clause-answer : goal.returns-in-Ok-clause-answer
+returns-clause-answer g c =
     goes_on (g.F.Pieces.tells c.args.files.now) (g.F.Files.holds c.args.files.now) (setting_of c.args.parts.now) c.args.force c.args.names.now
     (g.F.Pieces.faults c.args.files.now) (g.F.Pieces.faults c.read_files.new.files) (state_of c.args.parts.now)
     (sym c.in_default.ensures) c.in-Ok.catalog c.in-Ok.ensures.answer.0 c.in-Ok.ensures.answer.1
