@@ -16,3 +16,6 @@ mod verdicts;
 pub use running::run_session;
 pub use sessions::Session;
 pub use verdicts::verdict;
+
+#[cfg(test)]
+mod tests;
