@@ -97,6 +97,9 @@ SCRIPTS = [
     (SCRIPT + "load a\n" + 64 * "*65535\n" + "*64\nend\n", None),
     (SCRIPT + "load a\n" + 64 * "*65535\n" + "*64 s0\nend\n", "67 too-many"),
     (SCRIPT + 4096 * "accept 0\n", None), (SCRIPT + 4097 * "accept 0\n", "4098 too-many"),
+    (SCRIPT + 4096 * "accept 0\n" + "accept 1\n", "4098 range"),
+    (SCRIPT + 4096 * "accept 0\n" + "load a\n", "4098 too-many"),
+    (SCRIPT + "load a\n" + 64 * "*65535\n" + "*65 s1\nend\n", "67 range"),
 ]
 
 
@@ -135,6 +138,10 @@ def text_cases():
             back = "".join(f"cpu {n} core {n}\n" for n in range(256)) if kind == "core" else ""
             topology = (HEAD + front + lines + back).encode()
             yield ["select", "t", "e"], {**files, "t": topology}, 2 if fault else 0, text_of("topology line", fault)
+    front = HEAD + "".join(f"core {n} {CORE[6:].lstrip()}" for n in range(256))
+    for number, rev, fault in ((999, 0, "259 too-many"), (256, 4294967296, "259 number")):
+        topology = f"{front}core {number} sig 0 flags 0 rev {rev}\n".encode()
+        yield ["select", "t", "e"], {**files, "t": topology}, 2, text_of("topology line", fault)
     for text, fault in SCRIPTS:
         yield ["play", "t", "s"], {**files, "s": text.encode()}, 2 if fault else None, text_of("script line", fault)
 
