@@ -3,6 +3,8 @@ use std::alloc::{AllocError, Global};
 use std::test::Fail;
 use uc_bytes::{FileAnswer, FileCause, FileFault, Vendor};
 
+mod facts;
+
 /// An update of 64 bytes for signature 0x906ea and flags 2, of 2023-07-11, with data of zeros.
 fn push_update(bytes: &mut Vec<u8>, rev: u32, cksum: u32, total: u32) -> Result<(), AllocError> {
     let words = [

@@ -1,0 +1,210 @@
+//! What is told of the entries of files, by values of the formats.
+use super::*;
+
+/// The words of an update of 64 bytes, no two alike but the two that have to be 1.
+const UPDATE: [u32; 16] = [
+    1,
+    0xb4,
+    0x0711_2023,
+    0x0009_06ea,
+    0xf8e5_d75a,
+    1,
+    0x22,
+    16,
+    64,
+    0x30,
+    0x15,
+    0x2c,
+    0x7_0000,
+    0xfff9_0000,
+    0,
+    0,
+];
+
+/// The words of a container: its head, five rows, two of which a row before shadows, and two patches of 64 bytes, of
+/// which one has no id.
+const CONTAINER: [u32; 59] = [
+    0x0041_4d44,
+    0,
+    80,
+    0x0050_0f10,
+    1,
+    2,
+    0x7777_5010,
+    0x0050_0f11,
+    3,
+    4,
+    0x5011,
+    0x0050_0f10,
+    5,
+    6,
+    0x5011,
+    0x0050_0f12,
+    7,
+    8,
+    0x5010,
+    0x0050_0f11,
+    9,
+    10,
+    0x5010,
+    1,
+    64,
+    0x0101_2010,
+    0x0500_0029,
+    11,
+    12,
+    0,
+    0,
+    0x7777_5010,
+    13,
+    14,
+    15,
+    16,
+    17,
+    18,
+    19,
+    20,
+    21,
+    1,
+    64,
+    22,
+    0x0500_0030,
+    23,
+    24,
+    0,
+    0,
+    0,
+    25,
+    26,
+    27,
+    28,
+    29,
+    30,
+    31,
+    32,
+    33,
+];
+
+/// A catalogue that keeps the files' bytes, or one that keeps facts alone.
+fn made(alloc: Global, keeps: bool) -> Catalog {
+    if keeps {
+        Catalog::new(alloc)
+    } else {
+        Catalog::of_facts(alloc)
+    }
+}
+
+fn add_words(alloc: Global, catalog: &mut Catalog, words: &[u32]) -> Result<bool, AllocError> {
+    let mut bytes = Vec::new(alloc);
+    for word in words {
+        bytes.extend_from_slice(&word.to_le_bytes())?;
+    }
+    Ok(add(catalog, bytes).is_ok())
+}
+
+const UPDATE_FACTS: EntryFacts = EntryFacts {
+    file: 0,
+    start: 0,
+    len: 64,
+    vendor: Vendor::Intel,
+    rev: 0xb4,
+    date: 0x0711_2023,
+    min: 0x15,
+    sig: 0x0009_06ea,
+    flags: 0x22,
+    id: 0,
+    family: 0,
+};
+
+const PATCH_FACTS: EntryFacts = EntryFacts {
+    file: 1,
+    start: 100,
+    len: 64,
+    vendor: Vendor::Amd,
+    rev: 0x0500_0029,
+    date: 0,
+    min: 0,
+    sig: 0,
+    flags: 0,
+    id: 0x5010,
+    family: 0x14,
+};
+
+#[test]
+fn each_fact_has_its_word(rt: HostRuntime) -> Result<(), Fail> {
+    let of_no_id = EntryFacts {
+        start: 172,
+        rev: 0x0500_0030,
+        id: 0,
+        family: 0x0f,
+        ..PATCH_FACTS
+    };
+    for keeps in [true, false] {
+        let mut catalog = made(rt.alloc(), keeps);
+        assert!(rt; add_words(rt.alloc(), &mut catalog, &UPDATE)?);
+        assert!(rt; add_words(rt.alloc(), &mut catalog, &CONTAINER)?);
+        assert_eq!(rt; entry(&catalog, 0), Some(UPDATE_FACTS));
+        assert_eq!(rt; entry(&catalog, 1), Some(PATCH_FACTS));
+        assert_eq!(rt; entry(&catalog, 2), Some(of_no_id));
+        assert_eq!(rt; entry(&catalog, 3), None);
+    }
+    Ok(())
+}
+
+/// The first three signatures that an entry is for.
+fn first_served(catalog: &Catalog, i: u32) -> Option<[Option<u32>; 3]> {
+    if i >= catalog.len() {
+        return None;
+    }
+    Some([
+        catalog.served(i, 0),
+        catalog.served(i, 1),
+        catalog.served(i, 2),
+    ])
+}
+
+/// Signatures, and the ids that the table gives for them: that of the first row.
+const IDS: [(u32, u16); 4] = [
+    (0x0050_0f10, 0x5010),
+    (0x0050_0f11, 0x5011),
+    (0x0050_0f12, 0x5010),
+    (0x0050_0f13, 0),
+];
+
+#[test]
+fn a_row_that_an_earlier_one_shadows_is_for_nothing(rt: HostRuntime) -> Result<(), Fail> {
+    let sigs = [Some(0x0050_0f10), Some(0x0050_0f12), None];
+    for keeps in [true, false] {
+        let mut catalog = made(rt.alloc(), keeps);
+        assert!(rt; add_words(rt.alloc(), &mut catalog, &CONTAINER)?);
+        assert_eq!(rt; first_served(&catalog, 0), Some(sigs));
+        assert_eq!(rt; first_served(&catalog, 1), Some([None, None, None]));
+        for (sig, id) in &IDS {
+            let told = by_table(&catalog, 1, *sig);
+            assert_eq!(rt; told.map(|(id, _, _)| id), Some(*id));
+        }
+    }
+    Ok(())
+}
+
+#[test]
+fn four_bytes_decide_on_the_vendor(rt: HostRuntime) -> Result<(), Fail> {
+    let fronts: [(&[u8], FileCause); 5] = [
+        (b"DMA", FileCause::Short),
+        (b"DMA\0", FileCause::EquivShort),
+        (b"DMB\0", FileCause::Short),
+        (b"DMA\x01", FileCause::Short),
+        (b"\0AMD", FileCause::Short),
+    ];
+    for (front, cause) in &fronts {
+        let mut catalog = Catalog::new(rt.alloc());
+        let bytes = Vec::from_slice(rt.alloc(), *front)?;
+        let fault = FileFault {
+            offset: 0,
+            cause: *cause,
+        };
+        assert_eq!(rt; add(&mut catalog, bytes), Err(FileAnswer::Fault(fault)));
+        assert_eq!(rt; catalog.files(), 0);
+    }
+    Ok(())
+}
