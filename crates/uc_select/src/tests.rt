@@ -4,6 +4,8 @@ use std::test::Fail;
 use uc_bytes::Vendor;
 use uc_catalog::Catalog;
 
+mod served;
+
 /// A core of signature 0x906ea, flags 2 and revision 0xb4.
 const CORE: CoreFacts = CoreFacts {
     vendor: Vendor::Intel,
