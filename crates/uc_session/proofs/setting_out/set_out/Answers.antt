@@ -4,7 +4,7 @@ use Rattle.session_parts.specs.Parts.{setting_of, state_of}
 use Rattle.uc_session.proofs.Stopping.{goes_on}
 use Rattle.uc_session.proofs.setting_out.set_out.Goals as goal
 
-pub returns-clause-answer : goal.returns-in-Ok-clause-answer
+pub returns-clause-answer : goal.returns-clause-answer
 returns-clause-answer g c =
     goes_on (g.F.Pieces.tells c.args.files.now) (g.F.Files.holds c.args.files.now) (setting_of c.args.parts.now) c.args.force c.args.names.now
     (g.F.Pieces.faults c.args.files.now) (g.F.Pieces.faults c.read_files.new.files) (state_of c.args.parts.now)
