@@ -71,6 +71,42 @@ wrote_by : (offer rev first : ℕ) (refuses : Bool) →
 wrote_by offer rev first false fine is = is
 wrote_by offer rev first true fine is = no _ fine refl
 
+-- ---- an outcome that a run may come to
+
+module _ (plan : Plan) (text : List ℕ) (outcome : Outcome) (late : Bool) (sound : Sound plan) (padded : Padded plan)
+    (unlisted : Unlisted plan text outcome late) (done : LoadVerdict plan outcome Done) where
+  went : AfterGo plan outcome
+  went = let some = unlisted.decided in let few = done.1 in unlisted.after_go (omega (arith, some, few))
+
+  and_second : (a b : Bool) → a ≡ true → (a && b) ≡ false → b ≡ false
+  and_second true b is both = both
+  and_second false b is both = absurd cc
+
+  pub unlisted_holds : (g rev : ℕ) → plan.offer g ≡ Some rev → slice_index outcome.revs g ≡ rev
+  unlisted_holds g rev offered = elim (cases_lt g plan.groups) [
+    | inr past ↦ let wrong : None ≡ Some rev = sym (padded.no_offer g past) ∙ offered in absurd cc
+    | inl below ↦
+        let t : ℕ = plan.primary g in
+        let within : t < plan.threads = sound.primaries_in_range g below in
+        let own : plan.group t ≡ g = sound.primary_is_one_of_its_group g below in
+        let leads : is_primary plan t ≡ true = eq-eqb t (plan.primary (plan.group t)) (ap plan.primary (sym own)) in
+        let online : plan.kind t ≡ Online = sound.offer_to_present g rev below offered in
+        let its : plan.offer (plan.group t) ≡ Some rev = ap plan.offer own ∙ offered in
+        let left : end_at outcome t ≡ ends.Left (primary_result (Some rev) (plan.refuse (plan.group t))) =
+        went.primaries t within online leads
+        ∙ ap (λ (offer : Option ℕ). ends.Left (primary_result offer (plan.refuse (plan.group t)))) its in
+        let fine : left_with_error (end_at outcome t) ≡ false =
+        and_second (is_primary plan t) (left_with_error (end_at outcome t)) leads (done.2 t within) in
+        let written : slice_index outcome.revs g ≡ revision_after_go (Some rev) (plan.refuse (plan.group t)) (plan.rev0 g) =
+        went.revisions g below
+        ∙ ap (λ (offer : Option ℕ). revision_after_go offer (plan.refuse g) (plan.rev0 g)) offered
+        ∙ ap (λ (h : ℕ). revision_after_go (Some rev) (plan.refuse h) (plan.rev0 g)) (sym own) in
+        wrote_by rev (slice_index outcome.revs g) (plan.rev0 g) (plan.refuse (plan.group t))
+        (sym (ap left_with_error left) ∙ fine) written
+  ]
+
+-- ---- the outcome of items that are listed
+
 module _ (law : EndedLaw) (plan : Plan) (m : Running) (outcome : Outcome) (sound : Sound plan) (padded : Padded plan)
     (ruled : Ruled plan m) (shows : OutcomeShows plan outcome (shown_by plan m)) (done : LoadVerdict plan outcome Done)
   where
@@ -98,32 +134,5 @@ module _ (law : EndedLaw) (plan : Plan) (m : Running) (outcome : Outcome) (sound
     unlisted : Unlisted plan [] outcome true
     unlisted = law plan m outcome true sound padded ruled each_is_last (λ e. cc) (λ e. cc) shows
 
-    went : AfterGo plan outcome
-    went = let some = unlisted.decided in let few = done.1 in unlisted.after_go (omega (arith, some, few))
-
-    and_second : (a b : Bool) → a ≡ true → (a && b) ≡ false → b ≡ false
-    and_second true b is both = both
-    and_second false b is both = absurd cc
-
     pub holds_offer : (g rev : ℕ) → plan.offer g ≡ Some rev → slice_index outcome.revs g ≡ rev
-    holds_offer g rev offered = elim (cases_lt g plan.groups) [
-      | inr past ↦ let wrong : None ≡ Some rev = sym (padded.no_offer g past) ∙ offered in absurd cc
-      | inl below ↦
-          let t : ℕ = plan.primary g in
-          let within : t < plan.threads = sound.primaries_in_range g below in
-          let own : plan.group t ≡ g = sound.primary_is_one_of_its_group g below in
-          let leads : is_primary plan t ≡ true = eq-eqb t (plan.primary (plan.group t)) (ap plan.primary (sym own)) in
-          let online : plan.kind t ≡ Online = sound.offer_to_present g rev below offered in
-          let its : plan.offer (plan.group t) ≡ Some rev = ap plan.offer own ∙ offered in
-          let left : end_at outcome t ≡ ends.Left (primary_result (Some rev) (plan.refuse (plan.group t))) =
-          went.primaries t within online leads
-          ∙ ap (λ (offer : Option ℕ). ends.Left (primary_result offer (plan.refuse (plan.group t)))) its in
-          let fine : left_with_error (end_at outcome t) ≡ false =
-          and_second (is_primary plan t) (left_with_error (end_at outcome t)) leads (done.2 t within) in
-          let written : slice_index outcome.revs g ≡ revision_after_go (Some rev) (plan.refuse (plan.group t)) (plan.rev0 g) =
-          went.revisions g below
-          ∙ ap (λ (offer : Option ℕ). revision_after_go offer (plan.refuse g) (plan.rev0 g)) offered
-          ∙ ap (λ (h : ℕ). revision_after_go (Some rev) (plan.refuse h) (plan.rev0 g)) (sym own) in
-          wrote_by rev (slice_index outcome.revs g) (plan.rev0 g) (plan.refuse (plan.group t))
-          (sym (ap left_with_error left) ∙ fine) written
-    ]
+    holds_offer = unlisted_holds plan [] outcome true sound padded unlisted done

@@ -1,5 +1,6 @@
 -- What a load did in which the threads met, and what a boot did.
 use Rattle.std.proofs.Common.{◌≡◌, ℕ, ◌<◌, Bool, true, false, if◌then◌else◌, List, ◌++◌, length, Option, Some, None, option_map, refl, sym, ap, ◌∙◌, subst, inl, inr}
+use Rattle.std.specs.List.{slice_index}
 use Rattle.std.proofs.lemmas.Bool.{cases_lt, eq-eqb}
 use Rattle.std.proofs.lemmas.List.{get_or_default}
 use Rattle.std.proofs.lemmas.List.FromFn.{length-map-range_with_len}
@@ -7,7 +8,9 @@ use Rattle.uc_topology.specs.Stated.{IsPartition}
 use Rattle.file_entries.specs.Entry.{Entry}
 use Rattle.file_entries.specs.Selection.{IsBest}
 use Rattle.rendezvous_steps.specs.declared.ends.Beat.{Beat}
-use Rattle.rendezvous_steps.specs.Plan.{Plan}
+use Rattle.rendezvous_steps.specs.Plan.{Plan, Sound}
+use Rattle.rendezvous_steps.specs.Padded.{Padded}
+use Rattle.rendezvous_model.specs.Outcome.{Outcome}
 use Rattle.rendezvous_model.specs.Verdict.{Verdict, LoadVerdict}
 use Rattle.rendezvous_model.specs.Verdict as verdict
 use Rattle.rendezvous_rule.specs.Runs.{RunOf}
@@ -16,7 +19,7 @@ use Rattle.play_laws.specs.Lawful.{Lawful}
 use Rattle.play_laws.specs.Runs.{RunsHold, MomentsAreLawful}
 use Rattle.play_laws.specs.Outcomes.{EndedLaw}
 use Rattle.rendezvous_steps.specs.Events.{opening_running}
-use Rattle.rendezvous_rule.specs.Ran.{events_of}
+use Rattle.rendezvous_rule.specs.Ran.{Ran, events_of}
 use Rattle.rendezvous_runs.specs.Play.{last_moment}
 use Rattle.rendezvous_runs.proofs.Play.{last_moment_is}
 use Rattle.region_steps.specs.Region.{Patches}
@@ -34,8 +37,8 @@ use Rattle.session_laws.proofs.Parts.{load_offers}
 use Rattle.session_laws.proofs.Plans.{offer_in}
 use Rattle.session_laws.proofs.Stands.{cached_is, swept_stays}
 use Rattle.command_laws.specs.Left.{Leaves}
-use Rattle.tool_text.specs.Headline.{LoadHolds, BootHolds, core_facts, first_revision}
-use Rattle.tool_text.proofs.Done.{holds_offer}
+use Rattle.tool_text.specs.Headline.{ShowsRun, LoadHolds, BootHolds, core_facts, first_revision}
+use Rattle.tool_text.proofs.Done.{holds_offer, unlisted_holds}
 use Rattle.tool_text.proofs.Listings.{safe_items, shows_last}
 use Rattle.tool_text.proofs.Offering.{best_at_boot, best_at_load}
 
@@ -97,9 +100,36 @@ is_done_verdict (verdict.TimedOut t) is = absurd cc
 is_done_verdict (verdict.Failed t) is = absurd cc
 is_done_verdict (verdict.Incomplete t) is = absurd cc
 
-module _ (setting : Setting) (state : State) (force : Bool) (names : List (List ℕ)) (beats : List Beat) (did : Did)
+-- what is shown of a run: its items are safe, or its outcome is one that a run may come to
+shows_run : RunsHold → (lists : Bool) (plan : Plan) (beats : List Beat) (text : List ℕ) (outcome : Outcome) (late : Bool) →
+    Sound plan → Padded plan → Ran item_line lists plan beats text outcome late →
+    ShowsRun lists (run_of plan outcome late) beats text
+shows_run runs true plan beats text outcome late sound padded ran = safe_items runs plan beats text outcome sound padded ran
+shows_run runs false plan beats text outcome late sound padded ran = ran
+
+-- a run comes to a revision for each group
+revisions_count : (lists : Bool) (plan : Plan) (beats : List Beat) (text : List ℕ) (outcome : Outcome) (late : Bool) →
+    Ran item_line lists plan beats text outcome late → length outcome.revs ≡ plan.groups
+revisions_count true plan beats text outcome late ran =
+    ap length (shows_last item_line plan beats text outcome ran).revs ∙ length-map-range_with_len _ 0 plan.groups
+revisions_count false plan beats text outcome late ran = ran.a_revision_each
+
+-- where the verdict is Done, each group with an offer has come to it
+run_holds : MomentsAreLawful → EndedLaw → (lists : Bool) (plan : Plan) (beats : List Beat) (text : List ℕ)
+    (outcome : Outcome) (late : Bool) → Sound plan → Padded plan → Ran item_line lists plan beats text outcome late →
+    LoadVerdict plan outcome verdict.Done → (g rev : ℕ) → plan.offer g ≡ Some rev → slice_index outcome.revs g ≡ rev
+run_holds moments ended true plan beats text outcome late sound padded ran done =
+    let events = events_of plan beats in
+    let last = last_moment plan (opening_running plan) events in
+    let lawful : Lawful plan last =
+    subst (Lawful plan) (sym (last_moment_is plan (opening_running plan) events)) (moments plan events _ sound padded) in
+    holds_offer ended plan last outcome sound padded lawful.ruled (shows_last item_line plan beats text outcome ran) done
+run_holds moments ended false plan beats text outcome late sound padded ran done =
+    unlisted_holds plan text outcome late sound padded ran done
+
+module _ (lists : Bool) (setting : Setting) (state : State) (force : Bool) (names : List (List ℕ)) (beats : List Beat) (did : Did)
     (answer : CommandAnswer) (partition : IsPartition setting.machine.stated) (stands : Standing setting state)
-    (lends : LoadsLend) (meets : Meets true setting state force names beats did answer) where
+    (lends : LoadsLend) (meets : Meets lists setting state force names beats did answer) where
   abbrev entries : List Entry
   entries = meets.entries
 
@@ -172,22 +202,18 @@ module _ (setting : Setting) (state : State) (force : Bool) (names : List (List 
         let v : LoadVerdict p meets.outcome verdict.Done =
         subst (LoadVerdict p meets.outcome) (is_done_verdict meets.verdict (sym meets.is_answer ∙ is_done))
         meets.is_verdict in
-        let events = events_of p beats in
-        let last = last_moment p (opening_running p) events in
-        let shows = shows_last item_line p beats meets.items meets.outcome meets.ran in
-        let lawful : Lawful p last =
-        subst (Lawful p) (sym (last_moment_is p (opening_running p) events)) (moments p events _ meets.sound meets.padded) in
         let count : length meets.outcome.revs ≡ p.groups =
-        ap length shows.revs ∙ length-map-range_with_len _ 0 p.groups in
+        revisions_count lists p beats meets.items meets.outcome meets.late meets.ran in
         elim (cases_lt g p.groups) [
           | inl within ↦
               get_or_default meets.outcome.revs g (state.hardware.rev g) 0 (subst (λ (n : ℕ). g < n) (sym count) within)
-              ∙ holds_offer ended p last meets.outcome meets.sound meets.padded lawful.ruled shows v g rev offer
+              ∙ run_holds moments ended lists p beats meets.items meets.outcome meets.late meets.sound meets.padded meets.ran v
+              g rev offer
           | inr past ↦ let wrong : None ≡ Some rev = sym (meets.padded.no_offer g past) ∙ offer in absurd cc
         ]
 
     load_holds_met : Leaves setting state after run →
-        LoadHolds setting state force beats
+        LoadHolds lists setting state force beats
         (met setting state did.reads meets.entries meets.puts meets.offers (plan_of setting state meets.puts meets.offers)
         meets.items run answer) run
     unfolding met
@@ -211,8 +237,8 @@ module _ (setting : Setting) (state : State) (force : Bool) (names : List (List 
           lines = meets.items;
           shown = ap (λ (es : List Entry). load_offers_text setting state es meets.offers ++ meets.items) meets.read.all;
           items =
-              safe_items runs (plan_of setting state meets.puts meets.offers) beats meets.items meets.outcome meets.sound
-              meets.padded meets.ran;
+              shows_run runs lists (plan_of setting state meets.puts meets.offers) beats meets.items meets.outcome meets.late
+              meets.sound meets.padded meets.ran;
           dropped = leaves.dropped;
           told = refl;
           succeeded = leaves.succeeded;
@@ -220,12 +246,12 @@ module _ (setting : Setting) (state : State) (force : Bool) (names : List (List 
         }
 
     pub load_holds : ((ran : RunOf) → did.ran ≡ Some ran → Leaves setting state did.after ran) →
-        (ran : RunOf) → did.ran ≡ Some ran → LoadHolds setting state force beats did ran
+        (ran : RunOf) → did.ran ≡ Some ran → LoadHolds lists setting state force beats did ran
     unfolding met
     load_holds left ran is =
         let its : did.ran ≡ Some run = ap (λ (d : Did). d.ran) meets.does in
         let same : run ≡ ran = let both : Some run ≡ Some ran = sym its ∙ is in cc in
         let leaves : Leaves setting state after run =
         subst (λ (s : State). Leaves setting state s run) (ap (λ (d : Did). d.after) meets.does) (left run its) in
-        subst (LoadHolds setting state force beats did) same
-        (subst (λ (d : Did). LoadHolds setting state force beats d run) (sym meets.does) (load_holds_met leaves))
+        subst (LoadHolds lists setting state force beats did) same
+        (subst (λ (d : Did). LoadHolds lists setting state force beats d run) (sym meets.does) (load_holds_met leaves))

@@ -100,7 +100,7 @@ pub record Laws : Type 0 where
   pub runs : RunsHold
   pub moments : MomentsAreLawful
   pub ended : EndedLaw
-  pub grows : RanGrows item_line true
+  pub grows : (lists : Bool) → RanGrows item_line lists
   pub falls : session.NeverFalls
   pub leave : LoadsLeave
   pub opening : OpeningStands
@@ -108,7 +108,7 @@ pub record Laws : Type 0 where
   pub boots_lend : BootsLend
   pub loads_lend : LoadsLend
 
-module _ (laws : Laws) (setting : Setting) (is_partition : IsPartition setting.machine.stated) where
+module _ (laws : Laws) (lists : Bool) (setting : Setting) (is_partition : IsPartition setting.machine.stated) where
   boot_offers : (state : State) (names : List (List ℕ)) (did : Did) (answer : CommandAnswer) → Standing setting state →
       BootRow setting state names did answer → answer ≡ Done → BootHolds setting did
   boot_offers state names did answer stands row done =
@@ -116,19 +116,19 @@ module _ (laws : Laws) (setting : Setting) (is_partition : IsPartition setting.m
       boot_holds setting state names did is_partition stands laws.boots_lend boots
 
   load_offers_hold : (state : State) (force : Bool) (names : List (List ℕ)) (beats : List Beat) (did : Did) →
-      Standing setting state → SessionStep true setting state (command.Load force names beats) did →
-      IsQuiet did ⊎ Meets true setting state force names beats did did.answer →
-      (ran : RunOf) → did.ran ≡ Some ran → LoadHolds setting state force beats did ran
+      Standing setting state → SessionStep lists setting state (command.Load force names beats) did →
+      IsQuiet did ⊎ Meets lists setting state force names beats did did.answer →
+      (ran : RunOf) → did.ran ≡ Some ran → LoadHolds lists setting state force beats did ran
   load_offers_hold state force names beats did stands step (inl quiet) ran is = none_some did.ran ran quiet.none_ran is
   load_offers_hold state force names beats did stands step (inr meets) ran is =
-      load_holds setting state force names beats did did.answer is_partition stands laws.loads_lend meets laws.runs laws.moments laws.ended
-      (λ its is_its. laws.leave true setting state (command.Load force names beats) did its step is_its) ran is
+      load_holds lists setting state force names beats did did.answer is_partition stands laws.loads_lend meets laws.runs laws.moments laws.ended
+      (λ its is_its. laws.leave lists setting state (command.Load force names beats) did its step is_its) ran is
 
   offers_hold : (state : State) (one : Command) (did : Did) → Standing setting state →
-      SessionStep true setting state one did → OffersHold setting state one did
+      SessionStep lists setting state one did → OffersHold lists setting state one did
   offers_hold state (command.Load force names beats) did stands step =
       load_offers_hold state force names beats did stands step
-      (quiet_or_met true setting state force names beats did did.answer step)
+      (quiet_or_met lists setting state force names beats did did.answer step)
   offers_hold state (command.Boot names) did stands step = (
     (boot_quiet setting state names did did.answer step).none_ran,
     boot_offers state names did did.answer stands step,
@@ -147,16 +147,16 @@ module _ (laws : Laws) (setting : Setting) (is_partition : IsPartition setting.m
       (as_other did (set_refusal setting state core false) step (record { none_ran = refl; none_shown = refl })).none_ran
 
   load_is_quiet : (state : State) (force : Bool) (names : List (List ℕ)) (beats : List Beat) (did : Did) →
-      IsQuiet did ⊎ Meets true setting state force names beats did did.answer → did.ran ≡ None → did.shown ≡ []
+      IsQuiet did ⊎ Meets lists setting state force names beats did did.answer → did.ran ≡ None → did.shown ≡ []
   unfolding met
   load_is_quiet state force names beats did (inl quiet) none = quiet.none_shown
   load_is_quiet state force names beats did (inr meets) none =
       none_some did.ran _ none (ap (λ (d : Did). d.ran) meets.does)
 
-  quiet : (state : State) (one : Command) (did : Did) → SessionStep true setting state one did → did.ran ≡ None →
+  quiet : (state : State) (one : Command) (did : Did) → SessionStep lists setting state one did → did.ran ≡ None →
       did.shown ≡ []
   quiet state (command.Load force names beats) did step none =
-      load_is_quiet state force names beats did (quiet_or_met true setting state force names beats did did.answer step) none
+      load_is_quiet state force names beats did (quiet_or_met lists setting state force names beats did did.answer step) none
   quiet state (command.Boot names) did step none = (boot_quiet setting state names did did.answer step).none_shown
   quiet state (command.Online t) did step none =
       (as_other did _ step (rise_quiet state (online setting state t))).none_shown
@@ -172,36 +172,36 @@ module _ (laws : Laws) (setting : Setting) (is_partition : IsPartition setting.m
       (as_other did (set_refusal setting state core false) step (record { none_ran = refl; none_shown = refl })).none_shown
 
   command_holds : (state : State) (one : Command) (did : Did) → Standing setting state →
-      SessionStep true setting state one did → CommandHolds setting state one did
+      SessionStep lists setting state one did → CommandHolds lists setting state one did
   command_holds state one did stands step = record {
     offers = offers_hold state one did stands step;
     quiet = quiet state one did step;
-    rises = λ other g. laws.falls true setting state one did g laws.grows other step;
+    rises = λ other g. laws.falls lists setting state one did g (laws.grows lists) other step;
   }
 
   -- ---- each session
 
-  none_left : (state : State) (commands : List Command) → SessionHolds setting state commands []
+  none_left : (state : State) (commands : List Command) → SessionHolds lists setting state commands []
   none_left state [] = tt
   none_left state (one ∷ commands) = tt
 
   -- after a command that ends the session there is no other
   later : (ends : Bool) (state : State) (commands : List Command) (dids : List Did) →
-      StepsFrom true setting state (left_to_run ends commands) dids →
-      (StepsFrom true setting state commands dids → SessionHolds setting state commands dids) →
-      SessionHolds setting state commands dids
+      StepsFrom lists setting state (left_to_run ends commands) dids →
+      (StepsFrom lists setting state commands dids → SessionHolds lists setting state commands dids) →
+      SessionHolds lists setting state commands dids
   later true state commands [] steps rest = none_left state commands
   later true state commands (did ∷ dids) steps rest = absurd steps
   later false state commands dids steps rest = rest steps
 
   all_hold : (dids : List Did) (state : State) (commands : List Command) → Standing setting state →
-      All (λ one. InRange setting one) commands → StepsFrom true setting state commands dids →
-      SessionHolds setting state commands dids
+      All (λ one. InRange setting one) commands → StepsFrom lists setting state commands dids →
+      SessionHolds lists setting state commands dids
   all_hold [] state commands stands within steps = none_left state commands
   all_hold (did ∷ dids) state [] stands within steps = absurd steps
   all_hold (did ∷ dids) state (one ∷ commands) stands within steps =
       let here : Standing setting did.after =
-      laws.stand true setting state one did is_partition stands (All-head (λ one. InRange setting one) one commands within)
+      laws.stand lists setting state one did is_partition stands (All-head (λ one. InRange setting one) one commands within)
       steps.0 in (
         command_holds state one did stands steps.0,
         later (ends_session did.answer) did.after commands dids steps.1
@@ -209,6 +209,6 @@ module _ (laws : Laws) (setting : Setting) (is_partition : IsPartition setting.m
       )
 
   pub session_holds : (commands : List Command) (dids : List Did) → All (λ one. InRange setting one) commands →
-      Steps true setting commands dids → SessionHolds setting (opening_state setting) commands dids
+      Steps lists setting commands dids → SessionHolds lists setting (opening_state setting) commands dids
   session_holds commands dids within steps =
       all_hold dids (opening_state setting) commands (laws.opening setting) within steps

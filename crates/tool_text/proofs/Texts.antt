@@ -1,4 +1,5 @@
 -- What holds of the session or the selection that a text is of.
+use Rattle.std.proofs.Common.{true}
 use Rattle.uc_topology.proofs.Partition.{partition}
 use Rattle.uc_gen.specs.Texts.{topology_text, script_text}
 use Rattle.script_text.proofs.Kept.{within}
@@ -24,12 +25,12 @@ texts_hold laws (SelectOf topology names) reads files text status = λ selects r
     }
 texts_hold laws (PlayOf topology script) reads files text status = λ machine behind states plays.
     let limits = limits_of machine in
-    session_holds laws (setting_of machine plays.stated) (partition states.bytes machine states.is_machine.states)
+    session_holds laws true (setting_of machine plays.stated) (partition states.bytes machine states.is_machine.states)
     plays.stated.commands plays.plays.dids
     (all_in_range machine plays.stated (within limits plays.bytes plays.stated plays.is_script.states)) plays.plays.steps
 texts_hold laws (GenOf number) reads files text status = λ gen.
     let its = gen.generated in
     let limits = limits_of its.machine in
-    session_holds laws (setting_of its.machine its.stated) (partition (topology_text number) its.machine its.is_machine)
+    session_holds laws true (setting_of its.machine its.stated) (partition (topology_text number) its.machine its.is_machine)
     its.stated.commands its.plays.dids
     (all_in_range its.machine its.stated (within limits (script_text number) its.stated its.is_script)) its.plays.steps

@@ -24,7 +24,7 @@ use Rattle.rendezvous_model.specs.Excluded.{Excluded}
 use Rattle.rendezvous_model.specs.Safe.{Safe}
 use Rattle.rendezvous_model.specs.Outcome.{Outcome, OutcomeShows}
 use Rattle.rendezvous_model.specs.Verdict.{end_at}
-use Rattle.rendezvous_rule.specs.Ran.{events_of}
+use Rattle.rendezvous_rule.specs.Ran.{Unlisted, events_of}
 use Rattle.rendezvous_rule.specs.Runs.{RunOf}
 use Rattle.item_text.specs.Items.{item_line}
 use Rattle.script_text.specs.declared.command.Command.{Command}
@@ -83,10 +83,16 @@ pub record SafeItems (plan : Plan) (beats : List Beat) (lines : List ℕ) (outco
   pub never_falls : NeverFalls (length items) states
   pub comes_out : OutcomeShows plan outcome (states (length items))
 
+-- Where a rendezvous lists its items, they are safe. Where it lists nothing, its outcome is one that a run may come to: a
+-- group runs its offer after a go where it does not refuse, and what it ran before after a drop.
+abbrev pub ShowsRun : Bool → RunOf → List Beat → List ℕ → Type 0
+ShowsRun true ran beats lines = SafeItems ran.plan beats lines ran.outcome
+ShowsRun false ran beats lines = Unlisted ran.plan lines ran.outcome ran.late
+
 -- ---- what a load did in which the threads met, and what a boot did
 
 pub record LoadHolds
-    (setting : Setting) (before : State) (force : Bool) (beats : List Beat) (did : Did) (ran : RunOf)
+    (lists : Bool) (setting : Setting) (before : State) (force : Bool) (beats : List Beat) (did : Did) (ran : RunOf)
     : Type 0 where
   -- what each core is offered, at the revision that it has
   pub offers : List (Option ℕ)
@@ -101,10 +107,10 @@ pub record LoadHolds
   pub cached :
       (g number : ℕ) → offer_of offers g ≡ Some number → ran.plan.offer g ≡ Some (did.after.hardware.rev g) →
       cached_patches did.after g ≡ Some (bytes_at (entries_of_all offered.readings) number)
-  -- shown are the lines of the offers, and of the items
+  -- shown are the lines of the offers, and of the items where they are listed
   pub lines : List ℕ
   pub shown : did.shown ≡ load_offers_text setting before (entries_of_all offered.readings) offers ++ lines
-  pub items : SafeItems ran.plan beats lines ran.outcome
+  pub items : ShowsRun lists ran beats lines
   -- a dropped rendezvous changes no revision
   pub dropped : 2 ≤ ran.outcome.decide → (g : ℕ) → did.after.hardware.rev g ≡ before.hardware.rev g
   -- told are the results, and a thread that is told to have succeeded stands in a group that holds its offered revision
@@ -129,25 +135,25 @@ pub record BootHolds (setting : Setting) (did : Did) : Type 0 where
 -- ---- a command, and a session
 
 -- threads meet in a load alone; only a load and a boot offer anything
-abbrev pub OffersHold : Setting → State → Command → Did → Type 0
-OffersHold setting before (command.Load force names beats) did =
-    (ran : RunOf) → did.ran ≡ Some ran → LoadHolds setting before force beats did ran
-OffersHold setting before (command.Boot names) did =
+abbrev pub OffersHold : Bool → Setting → State → Command → Did → Type 0
+OffersHold lists setting before (command.Load force names beats) did =
+    (ran : RunOf) → did.ran ≡ Some ran → LoadHolds lists setting before force beats did ran
+OffersHold lists setting before (command.Boot names) did =
     (did.ran ≡ None) × (did.answer ≡ answer.Done → BootHolds setting did)
-OffersHold setting before one did = did.ran ≡ None
+OffersHold lists setting before one did = did.ran ≡ None
 
-pub record CommandHolds (setting : Setting) (before : State) (one : Command) (did : Did) : Type 0 where
-  pub offers : OffersHold setting before one did
+pub record CommandHolds (lists : Bool) (setting : Setting) (before : State) (one : Command) (did : Did) : Type 0 where
+  pub offers : OffersHold lists setting before one did
   -- offers and items are shown only where threads met
   pub quiet : did.ran ≡ None → did.shown ≡ []
   -- no revision falls while power stays on: a suspend is what takes it away
   pub rises : one ≢ command.Suspend → (g : ℕ) → before.hardware.rev g ≤ did.after.hardware.rev g
 
 -- each command of a session, from a state on
-abbrev pub SessionHolds : Setting → State → List Command → List Did → Type 0
-SessionHolds setting before (one ∷ commands) (did ∷ dids) =
-    CommandHolds setting before one did × SessionHolds setting did.after commands dids
-SessionHolds setting before commands dids = Unit {0}
+abbrev pub SessionHolds : Bool → Setting → State → List Command → List Did → Type 0
+SessionHolds lists setting before (one ∷ commands) (did ∷ dids) =
+    CommandHolds lists setting before one did × SessionHolds lists setting did.after commands dids
+SessionHolds lists setting before commands dids = Unit {0}
 
 -- ---- a text
 
@@ -160,11 +166,11 @@ Headline (SelectOf topology names) reads files text status =
 Headline (PlayOf topology script) reads files text status =
     (machine : Machine) (behind : List Read) → StatesMachine topology machine reads behind →
     (plays : PlaysScript script machine behind files text status) →
-    SessionHolds (setting_of machine plays.stated) (opening_state (setting_of machine plays.stated))
+    SessionHolds true (setting_of machine plays.stated) (opening_state (setting_of machine plays.stated))
     plays.stated.commands plays.plays.dids
 Headline (GenOf number) reads files text status =
     (gen : GenText number reads files text status) →
-    SessionHolds (setting_of gen.generated.machine gen.generated.stated)
+    SessionHolds true (setting_of gen.generated.machine gen.generated.stated)
     (opening_state (setting_of gen.generated.machine gen.generated.stated)) gen.generated.stated.commands
     gen.generated.plays.dids
 Headline line reads files text status = Unit {0}

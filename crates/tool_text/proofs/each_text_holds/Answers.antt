@@ -1,4 +1,3 @@
-use Rattle.std.proofs.Common.{true}
 use Rattle.item_text.specs.Items.{item_line}
 use Rattle.tool_text.proofs.Texts.{texts_hold}
 use Rattle.tool_text.proofs.each_text_holds.Goals as goal
@@ -9,7 +8,7 @@ returns c = texts_hold
       runs = c.each_run_holds.ensures.runs;
       moments = c.each_run_holds.ensures.moments;
       ended = c.the_end_is_unlisted.ensures;
-      grows = c.a_run_lowers_no_revision.ensures item_line true;
+      grows = λ lists. c.a_run_lowers_no_revision.ensures item_line lists;
       falls = c.only_a_suspend_lets_a_revision_fall.ensures;
       leave = c.what_a_load_leaves.ensures;
       opening = c.each_state_stands.ensures.opening;
