@@ -1,4 +1,5 @@
 mod Ended
+mod Headline
 mod Loads
 mod Played
 mod SomeText

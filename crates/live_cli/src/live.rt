@@ -5,10 +5,12 @@ ghost use Rattle.top_call.specs.Causes.{ReadCause, WriteCause};
 ghost use Rattle.top_call.specs.Written.{Written};
 ghost use Rattle.tool_text.specs.Tool.{UsageCause};
 ghost use Rattle.tool_text.specs.Words.{PlayOf};
+ghost use Rattle.live_cli.specs.Headline.{HoldingText};
 ghost use Rattle.live_cli.specs.Loads.{LoadsInTime, LateLoads};
 ghost use Rattle.live_cli.specs.Texts.{FromRuns, KeptBy, LiveText, SessionText};
 ghost use Rattle.live_cli.specs.Words.{live_asked};
 
+use crate::laws::each_text_holds;
 use crate::words::read_words;
 use command_laws::each_command_does_something;
 use ctl_core::Rendezvous;
@@ -70,11 +72,15 @@ fn play_live<F: Files, S: Sink, R: Rendezvous>(
 /// `written` says that the sink took a text of `LiveText`, for the bytes that were read and the rendezvous that were
 /// held, and the status is that text's; after a write fault or want of memory it took a front of one. Where the files
 /// tell what they hold, each read gave what its name holds; where `how` lists no items, what it keeps of its runs grew
-/// by just the rendezvous of the text, but after a write fault or want of memory. The next clauses say that each status
-/// but `Done`, `BadInput`, `Short`, `Panicked` and `NoMemory` has its cause in the words or in a count of faults;
-/// `same` and `still`, that every name still holds what it held, and that files that told this still tell it. The last
-/// two are of each load in such a text: it is done where its rendezvous is not late and no group with an offer refuses,
-/// and it says that a thread halted or gave up only where its rendezvous is late.
+/// by just the rendezvous of the text, but after a write fault or want of memory. `headline` says of what that text shows
+/// to be done, for every set of files, topology and script: each update offered to a core is an accepted entry of highest
+/// admissible revision for it; no revision falls while power stays on; a dropped rendezvous changes no revision; and a
+/// reported success names only processors that hold their offered revision. (That no thread of a core runs ordinary code
+/// from its write's begin until its primary's report is said of each step of a rendezvous, where that lists no items.)
+/// The next clauses say that each status but `Done`, `BadInput`, `Short`, `Panicked` and `NoMemory` has its cause in the
+/// words or in a count of faults; `same` and `still`, that every name still holds what it held, and that files that told
+/// this still tell it. The last two are of each load in such a text: it is done where its rendezvous is not late and no
+/// group with an offer refuses, and it says that a thread halted or gave up only where its rendezvous is late.
 pub fn run_live<F: Files, S: Sink, R: Rendezvous>(
     alloc: Global,
     words: &[Text],
@@ -86,6 +92,10 @@ pub fn run_live<F: Files, S: Sink, R: Rendezvous>(
         (FromRuns (F.tells files.old) (F.holds files.old) (KeptBy R.lists (R.runs how.old) (R.runs how.new) result)
         (LiveText R.lists (R.limit how.old) words.now))
         (Rose (F.faults files.old) (F.faults files.new)) S.stands out.old out.new result }
+    ensures headline { Written
+        (FromRuns (F.tells files.old) (F.holds files.old) (KeptBy R.lists (R.runs how.old) (R.runs how.new) result)
+        (HoldingText R.lists (R.limit how.old) (live_asked words.now)))
+        (Rose (F.faults files.old) (F.faults files.new)) S.stands out.old out.new result }
     ensures usage { UsageCause (live_asked words.now) result }
     ensures read_cause { ReadCause (F.faults files.old) (F.faults files.new) result }
     ensures write_cause { WriteCause (S.faults out.old) (S.faults out.new) result }
@@ -96,6 +106,7 @@ pub fn run_live<F: Files, S: Sink, R: Rendezvous>(
     ensures loads_in_time { LoadsInTime }
     ensures late_loads { LateLoads }
 {
+    each_text_holds();
     an_outcome_in_time_is_done();
     the_verdict_is_the_first_that_holds();
     match read_words(words) {

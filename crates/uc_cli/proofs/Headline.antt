@@ -32,7 +32,7 @@ module _ {D : Type 0} (texts others : Option ℕ → List ℕ → Status → Typ
     is_front = starts.is_front;
   }
 
-  written_as : (status : Status) → Written texts rose stands old new status → Written others rose stands old new status
+  pub written_as : (status : Status) → Written texts rose stands old new status → Written others rose stands old new status
   written_as Done written = whole_as Done written
   written_as (Usage k) written = whole_as (Usage k) written
   written_as BadInput written = whole_as BadInput written

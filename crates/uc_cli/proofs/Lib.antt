@@ -3,7 +3,7 @@ mod Endings
 mod Generating
 mod Groups
 mod StatusKinds
-mod Headline
+pub mod Headline
 mod Names
 mod Playing
 mod Generated

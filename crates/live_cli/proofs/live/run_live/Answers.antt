@@ -1,5 +1,6 @@
 use Rattle.top_call.specs.declared.status.Status.TheVariants.{Usage}
 use Rattle.top_call.proofs.Endings.{Ends-written, ended_cause}
+use Rattle.live_cli.proofs.Headline.{holding}
 use Rattle.live_cli.proofs.Loads.{loads_in_time, late_loads}
 use Rattle.live_cli.proofs.Played.{faulty_written}
 use Rattle.live_cli.proofs.live.run_live.Goals as goal
@@ -34,3 +35,13 @@ returns-in-Err-clause-loads_in_time g c =
 
 pub returns-in-Err-clause-late_loads : goal.returns-in-Err-clause-late_loads
 returns-in-Err-clause-late_loads g c = late_loads
+
+pub returns-in-Ok-clause-headline : goal.returns-in-Ok-clause-headline
+returns-in-Ok-clause-headline g c =
+    holding c.each_text_holds.ensures (g.F.Pieces.tells c.args.files.now) (g.F.Files.holds c.args.files.now) _ _
+    g.S.Sink.stands _ _ _ _ _ _ (returns-in-Ok-clause-written g c)
+
+pub returns-in-Err-clause-headline : goal.returns-in-Err-clause-headline
+returns-in-Err-clause-headline g c =
+    holding c.each_text_holds.ensures (g.F.Pieces.tells c.args.files.now) (g.F.Files.holds c.args.files.now) _ _
+    g.S.Sink.stands _ _ _ _ _ _ (returns-in-Err-clause-written g c)
