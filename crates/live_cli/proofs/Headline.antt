@@ -52,4 +52,4 @@ holding law tells holds kept rose stands old new lists most line status written 
     (FromRuns tells holds kept (HoldingText lists most line)) rose stands old new
     (runs_as tells holds kept (AskedText lists most line) (HoldingText lists most line)
     (λ reads runs files text status is.
-        record { is_text = is; headline = law lists most line reads runs files text status })) status written
+    record { is_text = is; headline = law lists most line reads runs files text status })) status written
