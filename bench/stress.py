@@ -1,12 +1,13 @@
 #!/usr/bin/env python3
 """Runs live rendezvous at gates that yield at random, and prints what they came to. README.md beside it says more."""
 import os
-import shutil
 import subprocess
 import sys
 import tempfile
 
-BELOW = "rendezvous_steps ctl_words ctl_table uc_live uc_bytes arrayvec"
+import page
+
+USED = "rendezvous_steps ctl_words ctl_table uc_live uc_bytes arrayvec"
 PROGRAM = r"""
 //! Lets drawn plans rendezvous at a gate that yields at random, compares what each comes to with what a run may come
 //! to, and prints how often each kind of outcome came. It ends with 1 at the first outcome that no run may have.
@@ -283,40 +284,11 @@ fn main(rt: HostRuntime) -> ExitCode {
 """
 
 
-def crates_below(root):
-    """Returns the lines of crates.txt for the crates that the program stands on, each with the crates below it."""
-    with open(os.path.join(root, "crates.txt")) as file:
-        listed = dict(line.rstrip("\n").split(":", 1) for line in file if ":" in line)
-    names, todo = set(), BELOW.split()
-    while todo:
-        name = todo.pop()
-        if name in listed and name not in names:
-            names.add(name)
-            todo += listed[name].split()
-    return {name: below for name, below in listed.items() if name in names}
-
-
-def build(root):
-    """Builds the program in the current folder, over copies of the crates that it stands on, and returns its path."""
-    crates = crates_below(root)
-    for name in crates:
-        shutil.copytree(os.path.join(root, "crates", name), os.path.join("crates", name))
-    shutil.copy(os.path.join(root, "HANDLES"), "HANDLES")
-    os.makedirs("crates/stress/src")
-    with open("crates/stress/src/main.rt", "w") as file:
-        file.write(PROGRAM.lstrip())
-    with open("crates.txt", "w") as file:
-        file.writelines(f"{name}:{below}\n" for name, below in crates.items())
-        file.write(f"stress: {BELOW}\n")
-    subprocess.run(["rt", "run"], cwd="crates/stress", stdout=subprocess.DEVNULL, check=True)
-    return os.path.abspath("crates/stress/out/stress")
-
-
 def main():
-    here = os.path.dirname(os.path.abspath(__file__))
     with tempfile.TemporaryDirectory() as folder:
         os.chdir(folder)
-        printed = subprocess.run([build(os.path.dirname(here))], stdout=subprocess.PIPE, text=True, check=False)
+        stress = page.build("stress", PROGRAM, USED)
+        printed = subprocess.run([stress], stdout=subprocess.PIPE, text=True, check=False)
         os.chdir("/")
     if printed.returncode:
         sys.exit("A run came to an outcome that no run may have, or memory ran out.")
