@@ -1,3 +1,5 @@
+mod Able
+mod Complete
 mod Ended
 mod Headline
 mod Loads

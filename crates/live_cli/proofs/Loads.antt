@@ -24,7 +24,7 @@ use Rattle.session_steps.specs.Did.{Did, only}
 use Rattle.session_steps.specs.Step.{LoadRow, Meets, met, run_of, answer_of}
 use Rattle.live_cli.specs.Loads.{LoadsInTime, LateLoads, WasLate, tells_of_patience}
 
-some_is : {A : Type 0} (a b : A) → Some a ≡ Some b → a ≡ b
+pub some_is : {A : Type 0} (a b : A) → Some a ≡ Some b → a ≡ b
 some_is {A = A} a b is = ap (λ (o : Option A). unwrap_or o a) is
 
 -- a command that held no rendezvous
@@ -59,7 +59,7 @@ module _ (setting : Setting) (state : State) (force : Bool) (names : List (List 
   MeetsSo answer = Meets false setting state force names beats did answer
 
   -- the run that a load held
-  ran_of : (answer : CommandAnswer) (is : MeetsSo answer) →
+  pub ran_of : (answer : CommandAnswer) (is : MeetsSo answer) →
       did.ran ≡ Some (run_of (plan_of setting state is.puts is.offers) is.outcome is.late)
   unfolding met
   ran_of answer is = ap (λ (d : Did). d.ran) is.does
@@ -87,7 +87,7 @@ module _ (setting : Setting) (state : State) (force : Bool) (names : List (List 
         ∙ ap answer_of
         (done_of plan is.items is.outcome is.late is.verdict is.sound same is.ran is.is_verdict)
 
-    in_time_row : (answer : CommandAnswer) → LoadRow false setting state force names beats did answer →
+    pub in_time_row : (answer : CommandAnswer) → LoadRow false setting state force names beats did answer →
         answer ≡ answers.Done
     in_time_row answers.Done row = refl
     in_time_row (answers.Hot answer) row = absurd row.1

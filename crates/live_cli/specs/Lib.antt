@@ -1,3 +1,4 @@
+pub mod Able
 pub mod Headline
 pub mod Loads
 pub mod Prompt

@@ -1,10 +1,12 @@
 //! The top call.
-ghost use Rattle.std.specs.Prelude.{◌≡◌, ◌≤◌};
+ghost use Rattle.std.specs.Prelude.{◌≡◌, ◌⊎◌, ◌≤◌, false};
 ghost use Rattle.uc_io.specs.Faults.{Rose};
+ghost use Rattle.top_call.specs.declared.status.Status.TheVariants.{Done, NoMemory};
 ghost use Rattle.top_call.specs.Causes.{ReadCause, WriteCause};
 ghost use Rattle.top_call.specs.Written.{Written};
 ghost use Rattle.tool_text.specs.Tool.{UsageCause};
 ghost use Rattle.tool_text.specs.Words.{PlayOf};
+ghost use Rattle.live_cli.specs.Able.{CanBeDone, AreInTime};
 ghost use Rattle.live_cli.specs.Headline.{HoldingText};
 ghost use Rattle.live_cli.specs.Loads.{LoadsInTime, LateLoads};
 ghost use Rattle.live_cli.specs.Texts.{FromRuns, KeptBy, LiveText, SessionText};
@@ -14,7 +16,7 @@ use crate::laws::each_text_holds;
 use crate::words::read_words;
 use command_laws::each_command_does_something;
 use ctl_core::Rendezvous;
-use play_laws::an_outcome_in_time_is_done;
+use play_laws::{a_patient_schedule_is_done, an_outcome_in_time_is_done};
 use round_laws::the_verdict_is_the_first_that_holds;
 use std::alloc::Global;
 use top_call::{Status, after_write};
@@ -72,15 +74,18 @@ fn play_live<F: Files, S: Sink, R: Rendezvous>(
 /// `written` says that the sink took a text of `LiveText`, for the bytes that were read and the rendezvous that were
 /// held, and the status is that text's; after a write fault or want of memory it took a front of one. Where the files
 /// tell what they hold, each read gave what its name holds; where `how` lists no items, what it keeps of its runs grew
-/// by just the rendezvous of the text, but after a write fault or want of memory. `headline` says of what that text shows
-/// to be done, for every set of files, topology and script: each update offered to a core is an accepted entry of highest
-/// admissible revision for it; no revision falls while power stays on; a dropped rendezvous changes no revision; and a
-/// reported success names only processors that hold their offered revision. (That no thread of a core runs ordinary code
-/// from its write's begin until its primary's report is said of each step of a rendezvous, where that lists no items.)
-/// The next clauses say that each status but `Done`, `BadInput`, `Short`, `Panicked` and `NoMemory` has its cause in the
-/// words or in a count of faults; `same` and `still`, that every name still holds what it held, and that files that told
-/// this still tell it. The last two are of each load in such a text: it is done where its rendezvous is not late and no
-/// group with an offer refuses, and it says that a thread halted or gave up only where its rendezvous is late.
+/// by just the rendezvous of the text, but after a write fault or want of memory. `headline` says of what that text
+/// shows to be done, for every set of files, topology and script: each update offered to a core is an accepted entry of
+/// highest admissible revision for it; no revision falls while power stays on; a dropped rendezvous changes no
+/// revision; and a reported success names only processors that hold their offered revision. (That no thread of a core
+/// runs ordinary code from its write's begin until its primary's report is said of each step of a rendezvous, where
+/// that lists no items.) The next clauses say that each status but `Done`, `BadInput`, `Short`, `Panicked` and
+/// `NoMemory` has its cause in the words or in a count of faults; `same` and `still`, that every name still holds what
+/// it held, and that files that told this still tell it. Two more are of each load in such a text: it is done where its
+/// rendezvous is not late and no group with an offer refuses, and it says that a thread halted or gave up only where
+/// its rendezvous is late. `done`, of files that tell and a rendezvous that lists no items: all is done, or memory ran
+/// out, where the files have a reading, the machine has few enough threads, each command finds what it needs, no
+/// rendezvous was late, and no count of faults rose.
 pub fn run_live<F: Files, S: Sink, R: Rendezvous>(
     alloc: Global,
     words: &[Text],
@@ -105,9 +110,15 @@ pub fn run_live<F: Files, S: Sink, R: Rendezvous>(
     ensures most_stays { R.limit how.new ≡ R.limit how.old }
     ensures loads_in_time { LoadsInTime }
     ensures late_loads { LateLoads }
+    ensures done { R.lists ≡ false → F.tells files.old →
+        CanBeDone (R.limit how.old) (live_asked words.now) (F.holds files.old) →
+        AreInTime (R.runs how.old) (R.runs how.new) →
+        (Rose (F.faults files.old) (F.faults files.new) → ⊥) → (Rose (S.faults out.old) (S.faults out.new) → ⊥) →
+        (result ≡ Done) ⊎ (result ≡ NoMemory) }
 {
     each_text_holds();
     an_outcome_in_time_is_done();
+    a_patient_schedule_is_done();
     the_verdict_is_the_first_that_holds();
     match read_words(words) {
         Ok(named) => play_live(alloc, named.topology, named.script, files, out, how),

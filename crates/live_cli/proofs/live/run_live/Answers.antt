@@ -1,5 +1,9 @@
+use Rattle.std.proofs.Common.{subst}
+use Rattle.tool_text.specs.Words.{Asked, PlayOf}
 use Rattle.top_call.specs.declared.status.Status.TheVariants.{Usage}
 use Rattle.top_call.proofs.Endings.{Ends-written, ended_cause}
+use Rattle.live_cli.specs.Able.{CanBeDone}
+use Rattle.live_cli.proofs.Complete.{done_or_memory}
 use Rattle.live_cli.proofs.Headline.{holding}
 use Rattle.live_cli.proofs.Loads.{loads_in_time, late_loads}
 use Rattle.live_cli.proofs.Played.{faulty_written}
@@ -45,3 +49,24 @@ pub returns-in-Err-clause-headline : goal.returns-in-Err-clause-headline
 returns-in-Err-clause-headline g c =
     holding c.each_text_holds.ensures (g.F.Pieces.tells c.args.files.now) (g.F.Files.holds c.args.files.now) _ _
     g.S.Sink.stands _ _ _ _ _ _ (returns-in-Err-clause-written g c)
+
+pub returns-in-Ok-clause-done : goal.returns-in-Ok-clause-done
+returns-in-Ok-clause-done g c = λ silent tell can timely no_read no_write.
+    let holds = g.F.Files.holds c.args.files.now in
+    let most = g.R.Rendezvous.limit c.args.how.now in
+    done_or_memory c.a_patient_schedule_is_done.ensures c.the_verdict_is_the_first_that_holds.ensures.one
+    c.an_outcome_in_time_is_done.ensures holds (g.F.Pieces.tells c.args.files.now) tell g.R.Rendezvous.lists silent most
+    (PlayOf c.in-Ok.named.topology.now c.in-Ok.named.script.now)
+    (subst (λ (line : Asked). CanBeDone most line holds) c.in-Ok.ensures can)
+    (g.R.Rendezvous.runs c.args.how.now) (g.R.Rendezvous.runs c.play_live.new.how) timely g.S.Sink.stands
+    c.args.out.now c.play_live.new.out _
+    (g.F.Pieces.faults c.args.files.now, g.F.Pieces.faults c.play_live.new.files)
+    (g.S.Sink.faults c.args.out.now, g.S.Sink.faults c.play_live.new.out)
+    c.play_live.result c.play_live.ensures.written c.play_live.ensures.read_cause c.play_live.ensures.write_cause
+    no_read no_write
+
+pub returns-in-Err-clause-done : goal.returns-in-Err-clause-done
+returns-in-Err-clause-done g c = λ silent tell can timely no_read no_write.
+    absurd
+    (subst (λ (line : Asked). CanBeDone (g.R.Rendezvous.limit c.args.how.now) line (g.F.Files.holds c.args.files.now))
+    c.in-Err.ensures can)
