@@ -1,5 +1,5 @@
 mod Steps
 mod Verdicts
 mod Pieces
-mod Standing
+pub mod Standing
 pub mod Walks
