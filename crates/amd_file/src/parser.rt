@@ -12,7 +12,7 @@ use uc_bytes::FileFault;
 /// What is known of the bytes of a file that came. It takes no memory, and keeps no bytes but those of a unit that did
 /// not come whole: the head of a container (12 bytes), a row of its table (16), the head of a section (8), or the
 /// header of a patch (64). The rest of a patch is passed over.
-#[derive(Drop)]
+#[derive(Debug, Drop)]
 pub struct AmdParser {
     progress: Progress,
     held: ArrayVec<u8, 64>,
