@@ -1,0 +1,10 @@
+pub mod FileReading
+pub mod FileRows
+pub mod Kept
+pub mod PatchReading
+pub mod PatchRows
+pub mod PatchSums
+pub mod PatchWalk
+pub mod UpdateReading
+pub mod UpdateRows
+pub mod UpdateWalk
