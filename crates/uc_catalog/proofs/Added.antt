@@ -10,30 +10,21 @@ use Rattle.intel_format.specs.File.{FileUpdate, IntelFile}
 use Rattle.amd_format.specs.File.{FileContainer, AmdFile, patches_in}
 use Rattle.file_entries.specs.Reading.{Reading, OfIntel, OfAmd, IsAmd, IsReading}
 use Rattle.file_entries.specs.Entry.{Entry, entries_of}
-use Rattle.uc_catalog.specs.declared.file.FileRows.{FileRows}
-use Rattle.uc_catalog.specs.declared.file.FileRows.TheVariants.{Updates, Patches}
+use Rattle.file_rows.specs.declared.rows.FileRows.{FileRows}
+use Rattle.file_rows.specs.declared.rows.FileRows.TheVariants.{Updates, Patches}
 use Rattle.uc_catalog.specs.declared.file.KeptFile.{KeptFile}
-use Rattle.uc_catalog.specs.declared.updates.UpdateRow.{UpdateRow}
-use Rattle.uc_catalog.specs.declared.updates.UpdateRows.{UpdateRows}
-use Rattle.uc_catalog.specs.declared.patches.PatchRow.{PatchRow}
-use Rattle.uc_catalog.specs.declared.patches.PatchRows.{PatchRows}
+use Rattle.file_rows.specs.declared.updates.UpdateRow.{UpdateRow}
+use Rattle.file_rows.specs.declared.updates.UpdateRows.{UpdateRows}
+use Rattle.file_rows.specs.declared.patches.PatchRow.{PatchRow}
+use Rattle.file_rows.specs.declared.patches.PatchRows.{PatchRows}
 use Rattle.uc_catalog.specs.Contents.{FileSum, Contents, sum_of, kept, kept_bytes, Adds}
-use Rattle.uc_catalog.specs.UpdateRows.{entry_of_update, AreUpdateRows}
-use Rattle.uc_catalog.specs.PatchRows.{entry_of_patch, ArePatchRows}
-use Rattle.uc_catalog.specs.Files.{is_amd, sum_of_rows, entries_of_rows, entries_of_file, entries_in, contents_of, StandRows, AreKept, AreRowsOf}
-use Rattle.uc_catalog.proofs.IntelRows.{updates_entered, updates_stand, many_rows as many_updates}
-use Rattle.uc_catalog.proofs.AmdRows.{containers_entered, patches_stand, many_rows as many_patches}
+use Rattle.file_rows.specs.UpdateRows.{entry_of_update, AreUpdateRows}
+use Rattle.file_rows.specs.PatchRows.{entry_of_patch, ArePatchRows}
+use Rattle.file_rows.specs.FileRows.{entries_of_rows, StandRows, AreRowsOf}
+use Rattle.uc_catalog.specs.Files.{sum_of_rows, entries_of_file, entries_in, contents_of, AreKept}
+use Rattle.file_rows.proofs.IntelRows.{updates_entered, updates_stand, many_rows as many_updates}
+use Rattle.file_rows.proofs.AmdRows.{containers_entered, patches_stand, many_rows as many_patches}
 use Rattle.uc_catalog.proofs.Located.{entries_append}
-
--- the test says where a container's magic begins a file
-pub magic_stands : (file : List ℕ) → is_amd file ≡ true → IsAmd file
-magic_stands file is = (grind (arith, nat_tests), grind (arith, nat_tests))
-
-magic_shows : (file : List ℕ) → IsAmd file → is_amd file ≡ true
-magic_shows file amd = grind (arith, nat_tests)
-
-pub no_magic : (file : List ℕ) → is_amd file ≡ false → IsAmd file → ⊥
-no_magic file is amd = absurd (false≢true (sym is ∙ magic_shows file amd))
 
 -- the rows of a file's updates: their sum, their entries, and that they stand
 module _ (keeps : Bool) (file : List ℕ) (number : ℕ) where

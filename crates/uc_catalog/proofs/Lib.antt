@@ -1,7 +1,4 @@
 mod Added
-mod AmdRows
-mod IntelRows
 mod Located
 mod RowsFound
-mod TablePairs
 pub mod Kept

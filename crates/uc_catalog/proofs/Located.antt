@@ -6,13 +6,14 @@ use Rattle.std.proofs.lemmas.List.{length-map, get_or_append_left, get_or-append
 use Rattle.std.proofs.lemmas.List.Sums.{sum_by-cons}
 use Rattle.std.proofs.lemmas.List.Elements.{All-head, All-tail, All-append, All-cons, All-nil}
 use Rattle.file_entries.specs.Entry.{Entry}
-use Rattle.uc_catalog.specs.declared.file.FileRows.{FileRows}
-use Rattle.uc_catalog.specs.declared.file.FileRows.TheVariants.{Updates, Patches}
+use Rattle.file_rows.specs.declared.rows.FileRows.{FileRows}
+use Rattle.file_rows.specs.declared.rows.FileRows.TheVariants.{Updates, Patches}
 use Rattle.uc_catalog.specs.declared.file.KeptFile.{KeptFile}
 use Rattle.uc_catalog.specs.Contents.{FileSum, Contents, IsCounted, file_at}
-use Rattle.uc_catalog.specs.UpdateRows.{entry_of_update}
-use Rattle.uc_catalog.specs.PatchRows.{entry_of_patch}
-use Rattle.uc_catalog.specs.Files.{count_of, sum_of_rows, entries_of_rows, entries_of_file, entries_in, contents_of, StandRows, AreKept}
+use Rattle.file_rows.specs.UpdateRows.{entry_of_update}
+use Rattle.file_rows.specs.PatchRows.{entry_of_patch}
+use Rattle.file_rows.specs.FileRows.{count_of, entries_of_rows, StandRows}
+use Rattle.uc_catalog.specs.Files.{sum_of_rows, entries_of_file, entries_in, contents_of, AreKept}
 
 -- rows stand for as many entries
 pub many_of_rows : (number : ℕ) (bytes : List ℕ) (rows : FileRows) → length (entries_of_rows number bytes rows) ≡ count_of rows

@@ -3,18 +3,19 @@ use Rattle.std.proofs.Common.{◌≡◌, ℕ, ◌+◌, ◌<◌, ◌≤◌, Bool,
 use Rattle.std.specs.Prelude.{All, IsTrue}
 use Rattle.std.proofs.lemmas.List.{length-map, get_or-map, get_or_default}
 use Rattle.file_entries.specs.Entry.{Entry, patch_entry}
-use Rattle.uc_catalog.specs.declared.file.FileRows.{FileRows}
-use Rattle.uc_catalog.specs.declared.file.FileRows.TheVariants.{Updates, Patches}
+use Rattle.file_rows.specs.declared.rows.FileRows.{FileRows}
+use Rattle.file_rows.specs.declared.rows.FileRows.TheVariants.{Updates, Patches}
 use Rattle.uc_catalog.specs.declared.file.KeptFile.{KeptFile}
 use Rattle.uc_catalog.specs.declared.place.Place.{Place}
-use Rattle.uc_catalog.specs.declared.updates.UpdateRow.{UpdateRow}
-use Rattle.uc_catalog.specs.declared.updates.UpdateRows.{UpdateRows}
-use Rattle.uc_catalog.specs.declared.patches.PatchRow.{PatchRow}
-use Rattle.uc_catalog.specs.declared.patches.PatchRows.{PatchRows}
+use Rattle.file_rows.specs.declared.updates.UpdateRow.{UpdateRow}
+use Rattle.file_rows.specs.declared.updates.UpdateRows.{UpdateRows}
+use Rattle.file_rows.specs.declared.patches.PatchRow.{PatchRow}
+use Rattle.file_rows.specs.declared.patches.PatchRows.{PatchRows}
 use Rattle.uc_catalog.specs.Contents.{Contents, entry_at}
-use Rattle.uc_catalog.specs.UpdateRows.{own_of, entry_of_update}
-use Rattle.uc_catalog.specs.PatchRows.{entry_of_patch}
-use Rattle.uc_catalog.specs.Files.{no_update, no_patch, count_of, extent_of, entries_of_rows, entries_of_file, entries_in, contents_of, IsPlace, StandRows, StandUpdates, StandPatches, AreKept}
+use Rattle.file_rows.specs.UpdateRows.{own_of, entry_of_update}
+use Rattle.file_rows.specs.PatchRows.{entry_of_patch}
+use Rattle.file_rows.specs.FileRows.{no_update, no_patch, count_of, extent_of, entries_of_rows, StandRows, StandUpdates, StandPatches}
+use Rattle.uc_catalog.specs.Files.{entries_of_file, entries_in, contents_of, IsPlace, AreKept}
 
 abbrev none : Entry
 none = patch_entry 0 0 [] []

@@ -1,5 +1,5 @@
 -- What a catalogue holds.
-use Rattle.std.specs.Prelude.{◌≡◌, ℕ, ◌*◌, ◌≤◌, Bool, true, false, List, [], ◌∷◌, ◌++◌, length, map, sum_by, slice_index_or, Result, Ok, Err}
+use Rattle.std.specs.Prelude.{◌≡◌, ℕ, ◌*◌, ◌≤◌, Bool, List, [], ◌∷◌, ◌++◌, length, map, sum_by, slice_index_or, Result, Ok, Err}
 use Rattle.uc_bytes.specs.declared.causes.Vendor.{Vendor}
 use Rattle.uc_bytes.specs.declared.causes.Vendor.TheVariants.{Intel, Amd}
 use Rattle.uc_bytes.specs.declared.causes.FileAnswer.{FileAnswer}
@@ -7,6 +7,7 @@ use Rattle.uc_bytes.specs.declared.causes.FileAnswer.TheVariants.{Fault, NoMemor
 use Rattle.amd_format.specs.File.{patches_in}
 use Rattle.file_entries.specs.Reading.{Reading, OfIntel, OfAmd, IsReading, HasFault}
 use Rattle.file_entries.specs.Entry.{Entry, patch_entry, entries_of, entries_from}
+pub use Rattle.file_rows.specs.Kept.{kept, kept_bytes}
 
 -- a file: its vendor, and how many entries it has
 pub record FileSum : Type 0 where
@@ -26,16 +27,6 @@ pub record Contents : Type 0 where
 -- no file yet
 abbrev pub no_files : Bool → Contents
 no_files keeps = record { keeps = keeps; files = []; entries = [] }
-
--- bytes, where they are kept
-abbrev pub kept_bytes : Bool → List ℕ → List ℕ
-kept_bytes true bytes = bytes
-kept_bytes false bytes = []
-
--- an entry as it is kept: with its bytes, or without
-abbrev pub kept : Bool → Entry → Entry
-kept keeps entry =
-    record { facts = entry.facts; bytes = kept_bytes keeps entry.bytes; pairs = entry.pairs; rows = entry.rows }
 
 -- a file, by its number
 abbrev pub file_at : Contents → ℕ → FileSum

@@ -1,4 +1,2 @@
 pub mod Contents
 pub mod Files
-pub mod PatchRows
-pub mod UpdateRows

@@ -1,9 +1,10 @@
 ghost use Rattle.std.specs.Prelude.{◌≡◌, ◌^◌, ◌<◌, ◌≤◌, ◌+◌, IsTrue, length, slice_get, sum_by, take, Some, vec_len};
 
-use crate::file::{FileRows, KeptFile, keep_rows};
+use crate::file::{KeptFile, keep_rows};
 use crate::found::Found;
 use crate::place::place_of;
 use file_entries::EntryFacts;
+use file_rows::FileRows;
 use std::alloc::Global;
 use std::marker::Model;
 use uc_bytes::{FileAnswer, Vendor};
@@ -140,7 +141,7 @@ impl Catalog {
             }
             FileRows::Patches(kept) => {
                 let patch = &kept.rows[row];
-                Found::Patch(place.file, patch, &kept.tables[patch.table as usize])
+                Found::Patch(place.file, patch, &kept.tables[patch.table])
             }
         }
     }

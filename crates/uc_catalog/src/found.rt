@@ -1,6 +1,5 @@
-use crate::patches::PatchRow;
-use crate::updates::UpdateRow;
 use equiv_index::RowIndex;
+use file_rows::{PatchRow, UpdateRow};
 
 /// An entry that was looked up, with the number of its file.
 #[derive(Clone, Copy, Debug)]

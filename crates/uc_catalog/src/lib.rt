@@ -9,10 +9,7 @@
 mod catalog;
 mod file;
 mod found;
-mod patches;
 mod place;
-mod tables;
-mod updates;
 
 pub use catalog::Catalog;
 pub use file_entries::EntryFacts;

@@ -2,7 +2,8 @@ use Rattle.std.proofs.Common.{suc, ◌+◌, ◌<◌, List, length, get_or, drop,
 use Rattle.std.proofs.lemmas.List.{get_or_append_left, get_or_default}
 use Rattle.file_entries.specs.Entry.{Entry}
 use Rattle.uc_catalog.specs.declared.file.KeptFile.{KeptFile}
-use Rattle.uc_catalog.specs.Files.{count_of, entries_of_file, entries_in}
+use Rattle.file_rows.specs.FileRows.{count_of}
+use Rattle.uc_catalog.specs.Files.{entries_of_file, entries_in}
 use Rattle.uc_catalog.proofs.Located.{many_of_rows, parted}
 use Rattle.uc_catalog.proofs.place.place_of.Goals as goal
 

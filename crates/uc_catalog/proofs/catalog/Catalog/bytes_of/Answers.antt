@@ -2,7 +2,7 @@ use Rattle.std.proofs.Common.{◌≡◌, ℕ, ◌+◌, ◌-◌, List, take, drop
 use Rattle.uc_catalog.specs.declared.file.KeptFile.{KeptFile}
 use Rattle.uc_catalog.specs.Contents.{Contents, entry_at}
 use Rattle.uc_catalog.specs.Files.{IsPlace}
-use Rattle.uc_catalog.specs.UpdateRows.{own_of}
+use Rattle.file_rows.specs.UpdateRows.{own_of}
 use Rattle.uc_catalog.proofs.RowsFound.{bytes_here}
 use Rattle.uc_catalog.proofs.catalog.Catalog.bytes_of.Goals as goal
 

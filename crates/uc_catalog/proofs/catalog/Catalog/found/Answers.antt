@@ -1,13 +1,13 @@
 use Rattle.std.proofs.Common.{◌≡◌, ℕ, ◌+◌, ◌-◌, ◌<◌, List, [], ◌∷◌, length, take, drop, sym, ◌∙◌, ap, subst, arith, length-take, length-drop}
 use Rattle.std.proofs.lemmas.List.{get_or_default}
 use Rattle.file_entries.specs.Entry.{Entry}
-use Rattle.uc_catalog.specs.declared.updates.UpdateRow.{UpdateRow}
-use Rattle.uc_catalog.specs.declared.patches.PatchRow.{PatchRow}
+use Rattle.file_rows.specs.declared.updates.UpdateRow.{UpdateRow}
+use Rattle.file_rows.specs.declared.patches.PatchRow.{PatchRow}
 use Rattle.uc_catalog.specs.declared.file.KeptFile.{KeptFile}
 use Rattle.uc_catalog.specs.Contents.{Contents, entry_at}
 use Rattle.uc_catalog.specs.Files.{IsPlace}
-use Rattle.uc_catalog.specs.UpdateRows.{own_of, entry_of_update}
-use Rattle.uc_catalog.specs.PatchRows.{entry_of_patch}
+use Rattle.file_rows.specs.UpdateRows.{own_of, entry_of_update}
+use Rattle.file_rows.specs.PatchRows.{entry_of_patch}
 use Rattle.uc_catalog.proofs.RowsFound.{update_here, update_stands, patch_here, patch_stands, patch_within}
 use Rattle.uc_catalog.proofs.catalog.Catalog.found.Goals as goal
 

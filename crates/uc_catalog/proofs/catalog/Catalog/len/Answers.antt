@@ -3,7 +3,8 @@ use Rattle.std.proofs.lemmas.List.{take_more}
 use Rattle.file_entries.specs.Entry.{Entry}
 use Rattle.uc_catalog.specs.declared.file.KeptFile.{KeptFile}
 use Rattle.uc_catalog.specs.Contents.{IsCounted}
-use Rattle.uc_catalog.specs.Files.{count_of, entries_in, entries_of_file}
+use Rattle.file_rows.specs.FileRows.{count_of}
+use Rattle.uc_catalog.specs.Files.{entries_in, entries_of_file}
 use Rattle.uc_catalog.proofs.Located.{counted_is, entries_append, many_of_rows, parted}
 use Rattle.uc_catalog.proofs.catalog.Catalog.len.Goals as goal
 
