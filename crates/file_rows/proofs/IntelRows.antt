@@ -15,20 +15,6 @@ use Rattle.file_rows.specs.Kept.{kept, kept_bytes}
 use Rattle.file_rows.specs.UpdateRows.{own_of, row_of, rows_of_updates, pairs_of_updates, entry_of_update, AreUpdateRows}
 use Rattle.file_rows.specs.FileRows.{StandUpdates}
 
--- the pairs of a table take 12 bytes each
-few_pairs : (u : FileUpdate) → IntelUpdate u.bytes u.header u.pairs → 12 * length u.pairs ≤ length u.bytes
-few_pairs u is =
-    let table = drop (48 + data_len u.header) u.bytes in
-    elim is.table [
-      | inl none ↦ omega (arith, ap (λ (l : List (ℕ × ℕ)). length l) none.1)
-      | inr ext ↦ omega (arith, ext.whole, ap (λ (l : List (ℕ × ℕ)). length l) ext.entries, length-map-range_with_len (pair_at table) 0 (entry_count table), length-drop (48 + data_len u.header) u.bytes)
-    ]
-
-pub few_of_all : (us : List FileUpdate) → AreUpdates us → 12 * length (pairs_of_updates us) ≤ length (joined us)
-few_of_all [] each = omega arith
-few_of_all (u ∷ us) each =
-    omega (arith, few_pairs u each.0, few_of_all us each.1, length-append u.pairs (pairs_of_updates us), length-append u.bytes (joined us))
-
 -- one more update has one more row, and its pairs
 pub rows_push : (start at : ℕ) (us : List FileUpdate) (u : FileUpdate) → rows_of_updates start at (us ++ u ∷ []) ≡ rows_of_updates start at us ++ row_of (start + length (joined us)) (at + length (pairs_of_updates us)) u ∷ []
 rows_push start at [] u =
@@ -110,9 +96,9 @@ inside_kept true file us is keep = all_inside 0 0 (length file) us (omega (arith
 inside_kept false file us is keep = absurd (false≢true keep)
 
 -- so they do in a file
-pub updates_stand : (keeps : Bool) (file : List ℕ) (us : List FileUpdate) (rows : UpdateRows) → length file ≤ 67108864 → IntelFile file us → AreUpdateRows us rows → StandUpdates keeps (kept_bytes keeps file) rows
-updates_stand keeps file us rows short is are = record {
-  few_pairs = omega (arith, short, few_of_all us is.each, ap (λ (l : List ℕ). length l) is.whole, ap (λ (l : List (ℕ × ℕ)). length l) are.pairs);
+pub updates_stand : (keeps : Bool) (file : List ℕ) (us : List FileUpdate) (rows : UpdateRows) → length rows.pairs.items ≤ 67108864 → IntelFile file us → AreUpdateRows us rows → StandUpdates keeps (kept_bytes keeps file) rows
+updates_stand keeps file us rows few is are = record {
+  few_pairs = few;
   few = omega (arith, is.few, many_rows 0 0 us, ap (λ (l : List UpdateRow). length l) are.rows);
   pairs = subst (λ (l : List UpdateRow). All (λ (row : UpdateRow). row.pairs_at + row.pairs ≤ length rows.pairs.items) l) (sym are.rows)
       (all_paired 0 0 (length rows.pairs.items) us (omega (arith, ap (λ (l : List (ℕ × ℕ)). length l) are.pairs)));

@@ -54,6 +54,11 @@ AreRowsOf (OfIntel updates) (Updates kept) = AreUpdateRows updates kept
 AreRowsOf (OfAmd containers) (Patches kept) = ArePatchRows containers kept
 AreRowsOf reading rows = ⊥
 
+-- there are no more pairs than a file has bytes
+abbrev pub HasFewPairs : FileRows → Type 0
+HasFewPairs (Updates kept) = length kept.pairs.items ≤ 67108864
+HasFewPairs (Patches kept) = Unit {0}
+
 -- no more bytes come: the rows are those of the file, or it has this fault
 abbrev pub IsFinished : List ℕ → Result FileRows FileFault → Type 0
 IsFinished bytes (Ok rows) = (reading : Reading) × IsReading bytes reading × AreRowsOf reading rows

@@ -1,6 +1,6 @@
 //! A file of either vendor that comes in pieces, and the rows of its entries.
-ghost use Rattle.std.specs.Prelude.{◌≡◌, ◌+◌, ◌<◌, ◌≤◌, ◌++◌, ℕ, List, [], None, length};
-ghost use Rattle.file_rows.specs.FileRows.{IsFinished};
+ghost use Rattle.std.specs.Prelude.{◌≡◌, ◌+◌, ◌<◌, ◌≤◌, ◌++◌, ℕ, List, [], None, IfOk, length};
+ghost use Rattle.file_rows.specs.FileRows.{HasFewPairs, IsFinished};
 
 use crate::patch_reader::PatchReader;
 use crate::rows::FileRows;
@@ -27,7 +27,8 @@ pub struct FileReader {
 
 /// What a file of fewer than four bytes is: the empty one has no entries, any other a fault.
 fn finish_head(alloc: Global, head: &[u8]) -> Result<FileRows, FileFault>
-    ensures { length head.now < 4 → IsFinished head.now result }
+    ensures finished { length head.now < 4 → IsFinished head.now result }
+    ensures few { IfOk result HasFewPairs }
 {
     if head.is_empty() {
         Ok(FileRows::Updates(UpdateRows::new(alloc)))
@@ -180,7 +181,8 @@ impl FileReader {
 
     /// The rows of the file, of which no more bytes come, or its first fault.
     pub fn finish(self) -> Result<FileRows, FileFault>
-        ensures { (bytes : List ℕ) → Reads bytes self → IsFinished bytes result }
+        ensures finished { (bytes : List ℕ) → Reads bytes self → IsFinished bytes result }
+        ensures few { IfOk result HasFewPairs }
     {
         if let Some(fault) = self.fault {
             return Err(fault);

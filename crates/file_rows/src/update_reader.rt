@@ -19,7 +19,7 @@ pub struct UpdateReader {
 }
 
 impl UpdateReader {
-    ghost use Rattle.std.specs.Prelude.{◌≡◌, ◌+◌, ◌++◌, ℕ, List, []};
+    ghost use Rattle.std.specs.Prelude.{◌≡◌, ◌+◌, ◌++◌, ℕ, List, [], IfOk};
     ghost use Rattle.file_rows.specs.UpdateReading.{Reads, IsFed, IsFinished};
 
     /// A reader to which nothing came.
@@ -70,7 +70,8 @@ impl UpdateReader {
 
     /// The rows of the file, of which no more bytes come, or its fault.
     pub fn finish(self) -> Result<UpdateRows, FileFault>
-        ensures { (bytes : List ℕ) → Reads bytes self → IsFinished bytes result }
+        ensures finished { (bytes : List ℕ) → Reads bytes self → IsFinished bytes result }
+        ensures few { IfOk result (λ kept. length kept.pairs.items ≤ 67108864) }
     {
         match self.walk.end() {
             Some(fault) => Err(fault),

@@ -1,5 +1,5 @@
 -- A file behind those that stand.
-use Rattle.std.proofs.Common.{◌≡◌, ℕ, ◌+◌, ◌<◌, ◌≤◌, Bool, true, false, List, [], ◌∷◌, ◌++◌, length, map, refl, sym, ◌∙◌, ap, subst, arith, length-append}
+use Rattle.std.proofs.Common.{◌≡◌, ℕ, ◌+◌, ◌<◌, ◌≤◌, Bool, true, false, Option, List, [], ◌∷◌, ◌++◌, length, map, refl, sym, ◌∙◌, ap, subst, arith, length-append}
 use Rattle.std.specs.Prelude.{All}
 use Rattle.std.proofs.lemmas.Bool.{false≢true}
 use Rattle.std.proofs.lemmas.Bool.Decides.{nat_tests}
@@ -12,6 +12,7 @@ use Rattle.file_entries.specs.Reading.{Reading, OfIntel, OfAmd, IsAmd, IsReading
 use Rattle.file_entries.specs.Entry.{Entry, entries_of}
 use Rattle.file_rows.specs.declared.rows.FileRows.{FileRows}
 use Rattle.file_rows.specs.declared.rows.FileRows.TheVariants.{Updates, Patches}
+use Rattle.uc_catalog.specs.declared.coming.Coming.{Coming}
 use Rattle.uc_catalog.specs.declared.file.KeptFile.{KeptFile}
 use Rattle.file_rows.specs.declared.updates.UpdateRow.{UpdateRow}
 use Rattle.file_rows.specs.declared.updates.UpdateRows.{UpdateRows}
@@ -20,7 +21,7 @@ use Rattle.file_rows.specs.declared.patches.PatchRows.{PatchRows}
 use Rattle.uc_catalog.specs.Contents.{FileSum, Contents, sum_of, kept, kept_bytes, Adds}
 use Rattle.file_rows.specs.UpdateRows.{entry_of_update, AreUpdateRows}
 use Rattle.file_rows.specs.PatchRows.{entry_of_patch, ArePatchRows}
-use Rattle.file_rows.specs.FileRows.{entries_of_rows, StandRows, AreRowsOf}
+use Rattle.file_rows.specs.FileRows.{entries_of_rows, StandRows, AreRowsOf, HasFewPairs}
 use Rattle.uc_catalog.specs.Files.{sum_of_rows, entries_of_file, entries_in, contents_of, AreKept}
 use Rattle.file_rows.proofs.IntelRows.{updates_entered, updates_stand, many_rows as many_updates}
 use Rattle.file_rows.proofs.AmdRows.{containers_entered, patches_stand, many_rows as many_patches}
@@ -54,17 +55,17 @@ summed (OfAmd cs) (Patches rows) are =
 summed (OfIntel us) (Patches rows) are = absurd are
 summed (OfAmd cs) (Updates rows) are = absurd are
 
-rows_stand : (keeps : Bool) (file : List ℕ) (reading : Reading) (rows : FileRows) → length file ≤ 67108864 → IsReading file reading → AreRowsOf reading rows → StandRows keeps (kept_bytes keeps file) rows
-rows_stand keeps file (OfIntel us) (Updates rows) short is are = updates_stand keeps file us rows short is.1 are
-rows_stand keeps file (OfAmd cs) (Patches rows) short is are = patches_stand keeps file cs rows is.1 are
-rows_stand keeps file (OfIntel us) (Patches rows) short is are = absurd are
-rows_stand keeps file (OfAmd cs) (Updates rows) short is are = absurd are
+rows_stand : (keeps : Bool) (file : List ℕ) (reading : Reading) (rows : FileRows) → HasFewPairs rows → IsReading file reading → AreRowsOf reading rows → StandRows keeps (kept_bytes keeps file) rows
+rows_stand keeps file (OfIntel us) (Updates rows) few is are = updates_stand keeps file us rows few is.1 are
+rows_stand keeps file (OfAmd cs) (Patches rows) few is are = patches_stand keeps file cs rows is.1 are
+rows_stand keeps file (OfIntel us) (Patches rows) few is are = absurd are
+rows_stand keeps file (OfAmd cs) (Updates rows) few is are = absurd are
 
 -- what was pushed
-module _ (keeps : Bool) (files new : List KeptFile) (pushed : KeptFile) (file : List ℕ) (read : (reading : Reading) × IsReading file reading × AreRowsOf reading pushed.rows) (bytes : pushed.bytes.items ≡ kept_bytes keeps file) (behind : new ≡ files ++ pushed ∷ []) where
-  pub adds : Adds (contents_of keeps files) (contents_of keeps new) file
+module _ (keeps : Bool) (files new : List KeptFile) (pushed : KeptFile) (was now : Option Coming) (file : List ℕ) (read : (reading : Reading) × IsReading file reading × AreRowsOf reading pushed.rows) (bytes : pushed.bytes.items ≡ kept_bytes keeps file) (behind : new ≡ files ++ pushed ∷ []) where
+  pub adds : Adds (contents_of keeps files was) (contents_of keeps new now) file
   adds =
-      let number = length (contents_of keeps files).files in
+      let number = length (contents_of keeps files was).files in
       let many = length-map files (λ (f : KeptFile). sum_of_rows f.rows) in
       let count : 0 + length files ≡ number = omega (arith, many) in
       record {
@@ -72,17 +73,17 @@ module _ (keeps : Bool) (files new : List KeptFile) (pushed : KeptFile) (file : 
         is_reading = read.1;
         keeps = refl;
         files = ap (λ (l : List KeptFile). map (λ (f : KeptFile). sum_of_rows f.rows) l) behind ∙ map_push (λ (f : KeptFile). sum_of_rows f.rows) files pushed
-            ∙ ap (λ (s : FileSum). (contents_of keeps files).files ++ s ∷ []) (summed read.0 pushed.rows read.2);
+            ∙ ap (λ (s : FileSum). (contents_of keeps files was).files ++ s ∷ []) (summed read.0 pushed.rows read.2);
         entries = ap (λ (l : List KeptFile). entries_in 0 l) behind ∙ entries_append 0 files (pushed ∷ [])
             ∙ ap (λ (l : List Entry). entries_in 0 files ++ l)
             (append-nil (entries_of_file (0 + length files) pushed) ∙ ap (λ (l : List ℕ). entries_of_rows (0 + length files) l pushed.rows) bytes
             ∙ entered keeps file (0 + length files) read.0 pushed.rows read.1 read.2 ∙ ap (λ (n : ℕ). map (kept keeps) (entries_of n read.0)) count);
       }
 
-  pub are_kept : length file ≤ 67108864 → length files < 16 → AreKept keeps files → AreKept keeps new
-  are_kept short room are = record {
+  pub are_kept : HasFewPairs pushed.rows → length files < 16 → AreKept keeps files → AreKept keeps new
+  are_kept few room are = record {
     few = omega (arith, room, ap (λ (l : List KeptFile). length l) behind, length-append files (pushed ∷ []));
     stand = subst (λ (l : List KeptFile). All (λ (f : KeptFile). StandRows keeps f.bytes.items f.rows) l) (sym behind)
         (All-append (λ (f : KeptFile). StandRows keeps f.bytes.items f.rows) files (pushed ∷ []) are.stand
-        (All-cons (λ (f : KeptFile). StandRows keeps f.bytes.items f.rows) pushed [] (subst (λ (l : List ℕ). StandRows keeps l pushed.rows) (sym bytes) (rows_stand keeps file read.0 pushed.rows short read.1 read.2)) (All-nil (λ (f : KeptFile). StandRows keeps f.bytes.items f.rows))));
+        (All-cons (λ (f : KeptFile). StandRows keeps f.bytes.items f.rows) pushed [] (subst (λ (l : List ℕ). StandRows keeps l pushed.rows) (sym bytes) (rows_stand keeps file read.0 pushed.rows few read.1 read.2)) (All-nil (λ (f : KeptFile). StandRows keeps f.bytes.items f.rows))));
   }

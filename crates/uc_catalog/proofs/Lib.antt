@@ -1,4 +1,5 @@
 mod Added
+mod Comings
 mod Located
 mod RowsFound
 pub mod Kept

@@ -1,5 +1,5 @@
 -- Where an entry of files stands.
-use Rattle.std.proofs.Common.{◌≡◌, ℕ, zero, suc, ◌+◌, ◌*◌, ◌-◌, ◌<◌, ◌≤◌, Bool, List, [], ◌∷◌, ◌++◌, length, get_or, map, take, drop, refl, sym, ◌∙◌, ap, subst, arith, length-append, append_assoc}
+use Rattle.std.proofs.Common.{◌≡◌, ℕ, zero, suc, ◌+◌, ◌*◌, ◌-◌, ◌<◌, ◌≤◌, Bool, Option, List, [], ◌∷◌, ◌++◌, length, get_or, map, take, drop, refl, sym, ◌∙◌, ap, subst, arith, length-append, append_assoc}
 use Rattle.std.specs.Prelude.{All, sum_by}
 use Rattle.std.proofs.Math.Seq.{drop-cons}
 use Rattle.std.proofs.lemmas.List.{length-map, get_or_append_left, get_or-append-add, get_or-map, get_or_default, map-append, take_more, append-nil}
@@ -8,6 +8,7 @@ use Rattle.std.proofs.lemmas.List.Elements.{All-head, All-tail, All-append, All-
 use Rattle.file_entries.specs.Entry.{Entry}
 use Rattle.file_rows.specs.declared.rows.FileRows.{FileRows}
 use Rattle.file_rows.specs.declared.rows.FileRows.TheVariants.{Updates, Patches}
+use Rattle.uc_catalog.specs.declared.coming.Coming.{Coming}
 use Rattle.uc_catalog.specs.declared.file.KeptFile.{KeptFile}
 use Rattle.uc_catalog.specs.Contents.{FileSum, Contents, IsCounted, file_at}
 use Rattle.file_rows.specs.UpdateRows.{entry_of_update}
@@ -54,12 +55,17 @@ few_in keeps n (file ∷ files) stand =
       length-append (entries_of_file n file) (entries_in (n + 1) files),
     )
 
-pub counted_is : (keeps : Bool) (files : List KeptFile) → AreKept keeps files → IsCounted (contents_of keeps files)
-counted_is keeps files are = record {
+pub counted_is : (keeps : Bool) (files : List KeptFile) (coming : Option Coming) → AreKept keeps files → IsCounted (contents_of keeps files coming)
+counted_is keeps files coming are = record {
   all = many_in 0 files;
   few_files = omega (arith, are.few, length-map files (λ (file : KeptFile). sum_of_rows file.rows));
   few_entries = omega (arith, few_in keeps 0 files are.stand, length-map files (λ (file : KeptFile). sum_of_rows file.rows));
 }
+
+-- and of files that are as they were
+pub counted_same : (keeps : Bool) (files now : List KeptFile) (coming : Option Coming) → now ≡ files → AreKept keeps files → IsCounted (contents_of keeps now coming)
+counted_same keeps files now coming is are =
+    counted_is keeps now coming (subst (λ (l : List KeptFile). AreKept keeps l) (sym is) are)
 
 -- the entries of files behind others
 pub entries_append : (n : ℕ) (files more : List KeptFile) → entries_in n (files ++ more) ≡ entries_in n files ++ entries_in (n + length files) more

@@ -1,5 +1,5 @@
 -- What an entry is, by the row at its place.
-use Rattle.std.proofs.Common.{◌≡◌, ℕ, ◌+◌, ◌<◌, ◌≤◌, Bool, true, List, [], ◌∷◌, length, get_or, map, refl, sym, ◌∙◌, ap, subst, arith}
+use Rattle.std.proofs.Common.{◌≡◌, ℕ, ◌+◌, ◌<◌, ◌≤◌, Bool, true, Option, None, List, [], ◌∷◌, length, get_or, map, refl, sym, ◌∙◌, ap, subst, arith}
 use Rattle.std.specs.Prelude.{All, IsTrue}
 use Rattle.std.proofs.lemmas.List.{length-map, get_or-map, get_or_default}
 use Rattle.file_entries.specs.Entry.{Entry, patch_entry}
@@ -38,7 +38,7 @@ inside_row keeps bytes (Patches kept) row keep stand within = stand.inside keep 
 
 module _ (keeps : Bool) (files : List KeptFile) (i : ℕ) (place : Place) (file : KeptFile) (is : IsPlace files i place) (this : file ≡ get_or files place.file file) where
   -- an entry is the one of its row
-  here : entry_at (contents_of keeps files) i ≡ get_or (entries_of_file place.file file) place.row none
+  here : entry_at (contents_of keeps files None) i ≡ get_or (entries_of_file place.file file) place.row none
   here = is.is file none ∙ ap (λ (f : KeptFile). get_or (entries_of_file place.file f) place.row none) (sym this)
 
   pub row_within : place.row < count_of file.rows
@@ -47,7 +47,7 @@ module _ (keeps : Bool) (files : List KeptFile) (i : ℕ) (place : Place) (file 
   pub stands : AreKept keeps files → StandRows keeps file.bytes.items file.rows
   stands are = subst (λ (f : KeptFile). StandRows keeps f.bytes.items f.rows) (sym this) (are.stand place.file file is.file)
 
-  pub bytes_here : (entry_at (contents_of keeps files) i).bytes ≡ own_of file.bytes.items (extent_of file.rows place.row).0 (extent_of file.rows place.row).1
+  pub bytes_here : (entry_at (contents_of keeps files None) i).bytes ≡ own_of file.bytes.items (extent_of file.rows place.row).0 (extent_of file.rows place.row).1
   bytes_here = ap (λ (e : Entry). e.bytes) here ∙ bytes_of_row place.file file.bytes.items file.rows place.row row_within
 
   pub long_here : AreKept keeps files → 48 ≤ (extent_of file.rows place.row).1
@@ -60,7 +60,7 @@ module _ (keeps : Bool) (files : List KeptFile) (i : ℕ) (place : Place) (file 
     pub update_within : place.row < length kept.rows.items
     update_within = subst (λ (r : FileRows). place.row < count_of r) rows row_within
 
-    pub update_here : (d : UpdateRow) → entry_at (contents_of keeps files) i ≡ entry_of_update place.file file.bytes.items kept.pairs.items (get_or kept.rows.items place.row d)
+    pub update_here : (d : UpdateRow) → entry_at (contents_of keeps files None) i ≡ entry_of_update place.file file.bytes.items kept.pairs.items (get_or kept.rows.items place.row d)
     update_here d =
         here ∙ ap (λ (r : FileRows). get_or (entries_of_rows place.file file.bytes.items r) place.row none) rows
         ∙ get_or-map (entry_of_update place.file file.bytes.items kept.pairs.items) kept.rows.items place.row d none update_within
@@ -72,7 +72,7 @@ module _ (keeps : Bool) (files : List KeptFile) (i : ℕ) (place : Place) (file 
     pub patch_within : place.row < length kept.rows.items
     patch_within = subst (λ (r : FileRows). place.row < count_of r) rows row_within
 
-    pub patch_here : (d : PatchRow) → entry_at (contents_of keeps files) i ≡ entry_of_patch place.file file.bytes.items kept.tables.items (get_or kept.rows.items place.row d)
+    pub patch_here : (d : PatchRow) → entry_at (contents_of keeps files None) i ≡ entry_of_patch place.file file.bytes.items kept.tables.items (get_or kept.rows.items place.row d)
     patch_here d =
         here ∙ ap (λ (r : FileRows). get_or (entries_of_rows place.file file.bytes.items r) place.row none) rows
         ∙ get_or-map (entry_of_patch place.file file.bytes.items kept.tables.items) kept.rows.items place.row d none patch_within

@@ -1,14 +1,16 @@
 -- How kept files stand for what a catalogue holds.
-use Rattle.std.specs.Prelude.{◌≡◌, ℕ, ◌+◌, ◌^◌, ◌<◌, ◌≤◌, Bool, List, [], ◌∷◌, ◌++◌, length, map, slice_index_or, All, Result, Ok, Err}
+use Rattle.std.specs.Prelude.{◌≡◌, ℕ, ◌+◌, ◌^◌, ◌<◌, ◌≤◌, Bool, List, [], ◌∷◌, ◌++◌, length, map, slice_index_or, All, Option, Some, None, Result, Ok, Err}
 use Rattle.uc_bytes.specs.declared.causes.FileAnswer.{FileAnswer}
 use Rattle.uc_bytes.specs.declared.causes.FileAnswer.TheVariants.{Fault, NoMemory}
 use Rattle.file_entries.specs.Reading.{Reading, IsReading, HasFault}
 use Rattle.file_entries.specs.Entry.{Entry}
 use Rattle.file_rows.specs.UpdateRows.{facts_of_update}
 use Rattle.file_rows.specs.PatchRows.{facts_of_patch}
-use Rattle.file_rows.specs.FileRows.{vendor_of, count_of, entries_of_rows, StandRows, AreRowsOf}
+use Rattle.file_rows.specs.FileRows.{vendor_of, count_of, entries_of_rows, StandRows, AreRowsOf, HasFewPairs}
 use Rattle.file_rows.specs.declared.rows.FileRows.{FileRows}
 use Rattle.uc_catalog.specs.Contents.{FileSum, Contents}
+use Rattle.uc_catalog.specs.Coming.{ComesIn}
+use Rattle.uc_catalog.specs.declared.coming.Coming.{Coming}
 use Rattle.uc_catalog.specs.declared.file.KeptFile.{KeptFile}
 use Rattle.uc_catalog.specs.declared.place.Place.{Place}
 use Rattle.uc_catalog.specs.declared.found.Found.{Found}
@@ -28,9 +30,18 @@ entries_in number [] = []
 entries_in number (file ∷ files) = entries_of_file number file ++ entries_in (number + 1) files
 
 -- what files stand for
-abbrev pub contents_of : Bool → List KeptFile → Contents
-contents_of keeps files =
-    record { keeps = keeps; files = map (λ file. sum_of_rows file.rows) files; entries = entries_in 0 files }
+abbrev pub contents_of : Bool → List KeptFile → Option Coming → Contents
+contents_of keeps files coming = record {
+  keeps = keeps;
+  files = map (λ file. sum_of_rows file.rows) files;
+  entries = entries_in 0 files;
+  coming = coming;
+}
+
+-- some bytes came of the file that is being read
+abbrev pub IsComing : Bool → Option Coming → Type 0
+IsComing keeps None = Unit {0}
+IsComing keeps (Some coming) = (bytes : List ℕ) × ComesIn keeps bytes coming
 
 -- what the rows of each file speak of stands, and there are at most 16 files
 pub record AreKept (keeps : Bool) (files : List KeptFile) : Type 0 where
@@ -39,7 +50,7 @@ pub record AreKept (keeps : Bool) (files : List KeptFile) : Type 0 where
 
 -- the rows are those of the file, or it has this fault
 abbrev pub IsFileKept : List ℕ → Result FileRows FileAnswer → Type 0
-IsFileKept bytes (Ok rows) = (reading : Reading) × IsReading bytes reading × AreRowsOf reading rows
+IsFileKept bytes (Ok rows) = ((reading : Reading) × IsReading bytes reading × AreRowsOf reading rows) × HasFewPairs rows
 IsFileKept bytes (Err (Fault fault)) = HasFault bytes fault.offset fault.cause
 IsFileKept bytes (Err NoMemory) = Unit {0}
 

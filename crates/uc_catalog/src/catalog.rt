@@ -1,5 +1,6 @@
-ghost use Rattle.std.specs.Prelude.{◌≡◌, ◌^◌, ◌<◌, ◌≤◌, ◌+◌, IsTrue, length, slice_get, sum_by, take, Some, vec_len};
+ghost use Rattle.std.specs.Prelude.{◌≡◌, ◌^◌, ◌<◌, ◌≤◌, ◌+◌, IsTrue, length, slice_get, sum_by, take, ℕ, List, None, Some, vec_len};
 
+use crate::coming::Coming;
 use crate::file::{KeptFile, keep_rows};
 use crate::found::Found;
 use crate::place::place_of;
@@ -16,24 +17,26 @@ pub struct Catalog {
     alloc: Global,
     keeps: bool,
     files: Vec<KeptFile>,
+    /// The file that is being read, if pieces of one came.
+    coming: Option<Coming>,
 }
 
 impl Model for Catalog {
     ghost use Rattle.uc_catalog.specs.Contents.{Contents};
-    ghost use Rattle.uc_catalog.specs.Files.{contents_of, AreKept};
+    ghost use Rattle.uc_catalog.specs.Files.{contents_of, AreKept, IsComing};
 
     ghost Value = { Contents };
 
-    ghost view = { λ catalog. contents_of catalog.keeps catalog.files.items };
+    ghost view = { λ catalog. contents_of catalog.keeps catalog.files.items catalog.coming };
 
-    ghost invariant = { λ catalog. AreKept catalog.keeps catalog.files.items };
+    ghost invariant = { λ catalog. AreKept catalog.keeps catalog.files.items × IsComing catalog.keeps catalog.coming };
 }
 
 impl Catalog {
     ghost use Rattle.std.specs.Prelude.{true, false};
     ghost use Rattle.amd_format.specs.Equiv.{id_of};
     ghost use Rattle.file_entries.specs.Entry.{served};
-    ghost use Rattle.uc_catalog.specs.Contents.{no_files, IsCounted, IsAdded, file_at, entry_at};
+    ghost use Rattle.uc_catalog.specs.Contents.{no_files, with_coming, IsCounted, IsAdded, IsEnded, IsFed, Comes, fed_of, file_at, entry_at};
     ghost use Rattle.uc_catalog.specs.Files.{IsFound};
 
     /// A catalogue without files, which will keep their bytes.
@@ -44,6 +47,7 @@ impl Catalog {
             alloc,
             keeps: true,
             files: Vec::new(alloc),
+            coming: None,
         }
     }
 
@@ -56,6 +60,7 @@ impl Catalog {
             alloc,
             keeps: false,
             files: Vec::new(alloc),
+            coming: None,
         }
     }
 
@@ -86,6 +91,45 @@ impl Catalog {
         };
         self.files.push_reserved(KeptFile { rows, bytes });
         Ok(())
+    }
+
+    /// Takes the next bytes of the file that is being read, which has at most 67,108,864. It answers a fault exactly where
+    /// its bytes have one that no further bytes undo, and later calls answer it again. Files and entries stay as they were.
+    pub fn feed(&mut self, piece: &[u8]) -> Result<(), FileAnswer>
+        requires { fed_of self.old + length piece.now ≤ 67108864 }
+        ensures same { self.new ≡ with_coming self.new.coming self.old }
+        ensures fed { fed_of self.new ≤ fed_of self.old + length piece.now }
+        ensures come { (bytes : List ℕ) → Comes bytes self.old → IsFed bytes piece.now self.new result }
+    {
+        let mut coming = Coming::or_new(self.alloc, self.coming.take());
+        let answer = coming.feed(self.keeps, piece);
+        self.coming = Some(coming);
+        answer
+    }
+
+    /// Adds the file that was read, of which no more bytes come, as `add` would; with no piece fed, the empty file. At most
+    /// 15 files stand. Where it is refused, it is forgotten; without memory all stays as it was.
+    pub fn end_file(&mut self) -> Result<(), FileAnswer>
+        requires { length self.old.files < 16 }
+        ensures ended { (bytes : List ℕ) → Comes bytes self.old → IsEnded self.old self.new bytes result }
+        ensures counted { IsCounted self.new }
+    {
+        self.files.reserve(1)?;
+        let coming = Coming::or_new(self.alloc, self.coming.take());
+        match coming.finish() {
+            Ok(file) => {
+                self.files.push_reserved(file);
+                Ok(())
+            }
+            Err(fault) => Err(FileAnswer::Fault(fault)),
+        }
+    }
+
+    /// Forgets the file that is being read, if there is one.
+    pub fn drop_file(&mut self)
+        ensures { self.new ≡ with_coming None self.old }
+    {
+        self.coming = None;
     }
 
     /// The number of files.

@@ -3,10 +3,12 @@
 //! A contract sees each file's vendor and number of entries, and the list of all entries (`Contents`). What the entries of
 //! files are stands in `file_entries`. The catalogue keeps a small row of facts for each entry, the pairs of all updates'
 //! tables, and of the table of a container that has a patch an index of its rows, which is made once, so that no call passes
-//! over a table: a table may have millions of rows. Nothing but `Catalog::add` takes memory.
+//! over a table: a table may have millions of rows. A file is added whole, or in pieces by `Catalog::feed` and
+//! `Catalog::end_file`; nothing but these takes memory.
 #![tactic(auto)]
 
 mod catalog;
+mod coming;
 mod file;
 mod found;
 mod place;

@@ -8,8 +8,8 @@ use Rattle.file_rows.proofs.file_reader.finish_head.Goals as goal
 short_not_amd : (head : List ℕ) → length head < 4 → IsAmd head → ⊥
 short_not_amd head short amd = omega (arith, short, amd.0)
 
-pub returns-then-is_empty : goal.returns-then-is_empty
-returns-then-is_empty c = λ short.
+pub returns-then-is_empty-clause-finished : goal.returns-then-is_empty-clause-finished
+returns-then-is_empty-clause-finished c = λ short.
     let is : length c.args.head.now ≡ 0 = grind (arith, nat_tests, c.is_empty.ensures, c.if-is_empty.true) in
     let none : c.args.head.now ≡ [] = none_from_length c.args.head.now is in (
       OfIntel [],
@@ -17,8 +17,8 @@ returns-then-is_empty c = λ short.
       record { rows = c.new.ensures.rows; pairs = c.new.ensures.pairs },
     )
 
-pub returns-else-is_empty : goal.returns-else-is_empty
-returns-else-is_empty c = λ short.
+pub returns-else-is_empty-clause-finished : goal.returns-else-is_empty-clause-finished
+returns-else-is_empty-clause-finished c = λ short.
     let head = c.args.head.now in
     let some : 0 < length head = grind (arith, nat_tests, c.is_empty.ensures, c.if-is_empty.false) in
     inl (short_not_amd head short, ended_short head head [] 0 refl tt (omega arith) refl some (omega (arith, short)))

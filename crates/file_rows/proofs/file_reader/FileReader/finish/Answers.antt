@@ -6,17 +6,17 @@ use Rattle.file_entries.specs.Reading.{OfIntel, OfAmd}
 use Rattle.file_rows.specs.FileReading.{ComesBy, ReadsBy}
 use Rattle.file_rows.proofs.file_reader.FileReader.finish.Goals as goal
 
-pub returns-in-Ok : goal.returns-in-Ok
-returns-in-Ok c = λ bytes reads.
+pub returns-in-Ok-clause-finished : goal.returns-in-Ok-clause-finished
+returns-in-Ok-clause-finished c = λ bytes reads.
     let s = c.args.self in
     let vendor : s.vendor ≡ Some Intel = c.in-Some-vendor.is ∙ ap (λ (v : Vendor). Some v) c.in-Intel.is in
     let comes = subst (λ (f : Option FileFault). ReadsBy f bytes s) c.in_default.is reads in
     let came = subst (λ (v : Option Vendor). ComesBy v s.head.items bytes s.updates s.patches) vendor comes in
-    let finished = c.in-Ok.ensures bytes came.2 in
+    let finished = c.in-Ok.ensures.finished bytes came.2 in
     (OfIntel finished.0, (came.1, finished.1), finished.2)
 
-pub returns-in-Ok-finish : goal.returns-in-Ok-finish
-returns-in-Ok-finish c = λ bytes reads.
+pub returns-in-Ok-finish-clause-finished : goal.returns-in-Ok-finish-clause-finished
+returns-in-Ok-finish-clause-finished c = λ bytes reads.
     let s = c.args.self in
     let vendor : s.vendor ≡ Some Amd = c.in-Some-vendor.is ∙ ap (λ (v : Vendor). Some v) c.in-Amd.is in
     let comes = subst (λ (f : Option FileFault). ReadsBy f bytes s) c.in_default.is reads in

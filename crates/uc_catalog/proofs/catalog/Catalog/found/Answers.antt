@@ -22,7 +22,7 @@ returns-in-Updates c =
     ∙ update_here c.self.inside.keeps c.self.inside.files.items c.args.i place file (subst (λ (l : List KeptFile). IsPlace l c.args.i c.place_of-place.result) c.as_slice.ensures.value c.place_of-place.ensures) c.index.ensures kept c.in-Updates.is row
     ∙ ap (λ (r : UpdateRow). entry_of_update place.file file.bytes.items kept.pairs.items r) (sym c.index-update.ensures) in
     let here = subst (λ (l : List KeptFile). IsPlace l c.args.i place) c.as_slice.ensures.value c.place_of-place.ensures in
-    let stand = update_stands c.self.inside.keeps c.self.inside.files.items c.args.i place file here c.index.ensures kept c.in-Updates.is c.self.invariant in
+    let stand = update_stands c.self.inside.keeps c.self.inside.files.items c.args.i place file here c.index.ensures kept c.in-Updates.is c.self.invariant.0 in
     let count : row.pairs_at + row.pairs - row.pairs_at ≡ row.pairs = omega arith in
     let pairs : take (row.pairs_at + row.pairs - row.pairs_at) (drop row.pairs_at c.deref.result.now) ≡ own_of kept.pairs.items row.pairs_at row.pairs =
     ap (λ (n : ℕ). take n (drop row.pairs_at c.deref.result.now)) count ∙ ap (λ (l : List (ℕ × ℕ)). own_of l row.pairs_at row.pairs) c.deref.ensures.value in (
@@ -43,7 +43,7 @@ returns-in-Patches c =
     ∙ patch_here c.self.inside.keeps c.self.inside.files.items c.args.i place file (subst (λ (l : List KeptFile). IsPlace l c.args.i c.place_of-place.result) c.as_slice.ensures.value c.place_of-place.ensures) c.index.ensures kept c.in-Patches.is row
     ∙ ap (λ (r : PatchRow). entry_of_patch place.file file.bytes.items kept.tables.items r) (sym c.index-patch.ensures) in
     let here = subst (λ (l : List KeptFile). IsPlace l c.args.i place) c.as_slice.ensures.value c.place_of-place.ensures in
-    let stand = patch_stands c.self.inside.keeps c.self.inside.files.items c.args.i place file here c.index.ensures kept c.in-Patches.is c.self.invariant in
+    let stand = patch_stands c.self.inside.keeps c.self.inside.files.items c.args.i place file here c.index.ensures kept c.in-Patches.is c.self.invariant.0 in
     let within = patch_within c.self.inside.keeps c.self.inside.files.items c.args.i place file here c.index.ensures kept c.in-Patches.is in
     let tabled : row.table < length kept.tables.items = subst (λ (r : PatchRow). r.table < length kept.tables.items) (sym c.index-patch.ensures) (stand.tables place.row row within) in (
       ap (λ (e : Entry). e.facts) is,

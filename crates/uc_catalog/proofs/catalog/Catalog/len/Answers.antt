@@ -9,14 +9,14 @@ use Rattle.uc_catalog.proofs.Located.{counted_is, entries_append, many_of_rows, 
 use Rattle.uc_catalog.proofs.catalog.Catalog.len.Goals as goal
 
 pub returns-clause-counted : goal.returns-clause-counted
-returns-clause-counted c = subst IsCounted c.self.view_is (counted_is _ _ c.self.invariant)
+returns-clause-counted c = subst IsCounted c.self.view_is (counted_is _ _ _ c.self.invariant.0)
 
 pub overflow_add-len : goal.overflow_add-len
 overflow_add-len c =
     let files = c.self.inside.files.items in
     let items = c.deref-file-items.result.now in
     let at = c.files.file-index in
-    let counted = counted_is c.self.inside.keeps files c.self.invariant in
+    let counted = counted_is c.self.inside.keeps files c.self.inside.coming c.self.invariant.0 in
     let split = ap (λ (l : List Entry). length l) (ap (entries_in 0) (sym c.deref-file-items.ensures.value ∙ sym (take-append-drop at items)) ∙ entries_append 0 (take at items) (drop at items)) in
     let next = ap (λ (l : List Entry). length l) (parted items at (0 + length (take at items)) c.file-item.result (omega arith)) in
     let count = many_of_rows (0 + length (take at items)) (get_or items at c.file-item.result).bytes.items (get_or items at c.file-item.result).rows in
