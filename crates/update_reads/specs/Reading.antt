@@ -1,9 +1,9 @@
 -- What the reading of update files gave. Where the files tell what they hold, that is what was read.
-use Rattle.std.specs.Prelude.{◌≡◌, ℕ, suc, ◌≤◌, List, length, Result, Ok, Err}
+use Rattle.std.specs.Prelude.{◌≡◌, ℕ, suc, ◌≤◌, List, length, None, Result, Ok, Err}
 use Rattle.uc_io.specs.Faults.{Rose}
 use Rattle.uc_bytes.specs.declared.causes.FileFault.{FileFault}
 use Rattle.file_entries.specs.Reading.{Reading}
-use Rattle.uc_catalog.specs.Contents.{Contents, IsOfReadings, Adds}
+use Rattle.uc_catalog.specs.Contents.{Contents, IsOfReadings, Adds, with_coming}
 use Rattle.file_reads.specs.declared.TheConstants.{FILE_LIMIT}
 use Rattle.file_reads.specs.Accepts.{Refuses, AreAccepted}
 use Rattle.file_reads.specs.Reads.{Read, names_of, files_of, AreHeld, Reads, NotRead, Refused}
@@ -18,15 +18,16 @@ in_place place update.ReadFault = files.Unread place
 in_place place (update.BadFile fault) = files.Refused place fault
 in_place place update.NoMemory = files.NoMemory
 
--- the file stands in the catalogue, or is refused and the catalogue is as it was; only a failed read raises the count of
--- faults
+-- the file stands in the catalogue, or is refused and the files and entries are as they were; no file is being read then.
+-- Only a failed read raises the count of faults.
 abbrev pub IsUpdateRead : Type 0 → List ℕ → ℕ → ℕ → Contents → Contents → Result (Unit {0}) UpdateAnswer → Type 0
 IsUpdateRead tells held before now old new (Ok _) =
-    (now ≡ before) × ((bytes : List ℕ) × (length bytes ≤ FILE_LIMIT) × (tells → bytes ≡ held) × Adds old new bytes)
-IsUpdateRead tells held before now old new (Err update.ReadFault) = Rose before now × (new ≡ old)
+    (now ≡ before) × ((bytes : List ℕ) × (length bytes ≤ FILE_LIMIT) × (tells → bytes ≡ held) × Adds old new bytes × (new.coming ≡ None))
+IsUpdateRead tells held before now old new (Err update.ReadFault) = Rose before now × (new ≡ with_coming None old)
 IsUpdateRead tells held before now old new (Err (update.BadFile fault)) =
-    (now ≡ before) × ((bytes : List ℕ) × (tells → bytes ≡ held) × Refuses bytes fault.offset fault.cause) × (new ≡ old)
-IsUpdateRead tells held before now old new (Err update.NoMemory) = (now ≡ before) × (new ≡ old)
+    (now ≡ before) × ((bytes : List ℕ) × (tells → bytes ≡ held) × Refuses bytes fault.offset fault.cause)
+    × (new ≡ with_coming None old)
+IsUpdateRead tells held before now old new (Err update.NoMemory) = (now ≡ before) × (new ≡ with_coming None old)
 
 -- the catalogue is that of the files that were read under these names
 pub record IsOfFiles (tells : Type 0) (names : List (List ℕ)) (holds : List ℕ → List ℕ) (contents : Contents)

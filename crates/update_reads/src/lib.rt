@@ -3,6 +3,7 @@
 #![tactic(auto)]
 
 mod answers;
+mod pieces;
 mod reading;
 
 pub use answers::{FilesAnswer, UpdateAnswer};

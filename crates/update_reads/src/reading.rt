@@ -3,13 +3,14 @@ ghost use Rattle.uc_catalog.specs.Contents.{no_files};
 ghost use Rattle.update_reads.specs.Reading.{IsUpdateRead, AreFilesRead};
 
 use crate::answers::{FilesAnswer, UpdateAnswer};
-use file_reads::FILE_LIMIT;
+use crate::pieces::{end_update, feed_pieces};
 use std::alloc::Global;
-use uc_bytes::{FileAnswer, FileCause, FileFault, Text};
+use uc_bytes::Text;
 use uc_catalog::Catalog;
-use uc_io::{Files, ReadAnswer};
+use uc_io::{Files, OpenAnswer};
 
-/// Reads the update file of a name and adds it to the catalogue, or says why not. The catalogue is then as it was.
+/// Reads the update file of a name piece by piece and adds it to the catalogue, or says why not: the files and entries are
+/// then as they were. Pieces that were fed before are forgotten.
 pub fn read_update<F: Files>(
     alloc: Global,
     catalog: &mut Catalog,
@@ -22,21 +23,18 @@ pub fn read_update<F: Files>(
     ensures still { F.tells files.old → F.tells files.new }
     ensures later { F.faults files.old ≤ F.faults files.new }
 {
-    let bytes = match files.read(alloc, name.as_str(), FILE_LIMIT) {
-        Ok(bytes) => bytes,
-        Err(ReadAnswer::Failed) => return Err(UpdateAnswer::ReadFault),
-        Err(ReadAnswer::TooLong(_)) => {
-            return Err(UpdateAnswer::BadFile(FileFault {
-                offset: FILE_LIMIT,
-                cause: FileCause::TooLong,
-            }));
+    catalog.drop_file();
+    match files.open_file(alloc, name.as_str()) {
+        Ok(()) => {}
+        Err(OpenAnswer::Failed) => return Err(UpdateAnswer::ReadFault),
+        Err(OpenAnswer::NoMemory) => return Err(UpdateAnswer::NoMemory),
+    }
+    match feed_pieces(catalog, files) {
+        Ok(()) => end_update(catalog),
+        Err(answer) => {
+            catalog.drop_file();
+            Err(answer)
         }
-        Err(ReadAnswer::NoMemory) => return Err(UpdateAnswer::NoMemory),
-    };
-    match catalog.add(bytes) {
-        Ok(()) => Ok(()),
-        Err(FileAnswer::Fault(fault)) => Err(UpdateAnswer::BadFile(fault)),
-        Err(FileAnswer::NoMemory) => Err(UpdateAnswer::NoMemory),
     }
 }
 

@@ -49,7 +49,7 @@ returns-in-Err-clause-answer g c =
     slice_get_read c.args.names.now (length c.args.names.now)
     c.names.name-index c.name-item.result refl inside c.name-item.is in
     stopped _ c.args.names.now _ _ _ c.names.name-index c.name-item.result c.names.invariant.place inside
-    c.names.invariant.stands at _ _ _ _ _ _ _ c.in-Err.answer _ c.in_place.ensures c.names.invariant.still
+    c.names.invariant.stands at _ _ _ _ _ c.names.catalog c.read_update.new.catalog c.in-Err.answer _ c.in_place.ensures c.names.invariant.still
     (ap (λ (holds : List ℕ → List ℕ). holds c.name-item.result) c.names.invariant.same)
     c.names.invariant.count
     c.in-Err.ensures.answer

@@ -1,12 +1,18 @@
-use Rattle.std.proofs.Common.{◌<◌, inl, ℕ, List, length, refl, subst}
-use Rattle.file_reads.specs.declared.TheConstants.{FILE_LIMIT}
-use Rattle.file_reads.proofs.Accepted.{past_limit}
+use Rattle.std.proofs.Common.{ℕ, List, ◌∙◌, ap}
+use Rattle.uc_catalog.specs.Contents.{Contents, with_coming}
+use Rattle.update_reads.proofs.Ended.{ended}
 use Rattle.update_reads.proofs.reading.read_update.Goals as goal
 
-pub returns-in-Err-TooLong-clause-answer : goal.returns-in-Err-TooLong-clause-answer
-returns-in-Err-TooLong-clause-answer g c =
-    let read = rw c.in-Err-TooLong.field-0-is at c.in-Err-TooLong.ensures.answer in
+pub returns-in-Ok-feed_pieces-clause-answer : goal.returns-in-Ok-feed_pieces-clause-answer
+returns-in-Ok-feed_pieces-clause-answer g c =
     let tells = g.F.Pieces.tells c.args.files.now in
     let holds = g.F.Files.holds c.args.files.now in
-    let long = past_limit FILE_LIMIT (holds c.args.name.now) tells (λ tell. subst (λ (name : List ℕ). FILE_LIMIT < length (holds name)) c.as_str.ensures (read.2 tell)) in
-    (read.0, (long.0, long.2, inl (long.1, refl, refl)), refl)
+    let opened = c.in-Ok.ensures.answer in
+    let fed = c.in-Ok-feed_pieces.ensures.answer in
+    let now = c.feed_pieces.new.catalog in
+    ended c.end_update.result tells (holds c.args.name.now) fed.1.0 _ _ c.args.catalog.now now c.end_update.new.catalog
+    (fed.0 ∙ opened.0)
+    fed.1.1
+    (λ tell. fed.1.2 (c.in-Ok.ensures.still tell) ∙ opened.1 tell ∙ ap (λ (name : List ℕ). holds name) c.as_str.ensures)
+    (c.in-Ok-feed_pieces.ensures.kept ∙ ap (λ (v : Contents). with_coming now.coming v) c.drop_file.ensures)
+    (c.end_update.ensures fed.1.0 fed.1.3)

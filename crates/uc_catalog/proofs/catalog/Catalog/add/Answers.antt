@@ -53,8 +53,8 @@ returns-clause-added c =
     ] in
     let behind = c.push_reserved.ensures.items ∙ ap (λ (l : List KeptFile). l ++ record { rows = c.in-Ok.rows; bytes = c.if-self.bytes2 } ∷ []) c.reserve.ensures.items in (
       subst (λ (v : Contents). Adds v (contents_of keeps c.push_reserved.new.self.items coming) c.args.bytes.items) c.self.view_is
-      (subst (λ (l : List ℕ). Adds (contents_of keeps c.self.inside.files.items coming) (contents_of keeps c.push_reserved.new.self.items coming) l) c.as_slice.ensures.value
-      (adds keeps c.self.inside.files.items c.push_reserved.new.self.items (record { rows = c.in-Ok.rows; bytes = c.if-self.bytes2 }) coming coming c.as_slice.result.now c.in-Ok.ensures.0 (bytes ∙ ap (λ (l : List ℕ). kept_bytes keeps l) (sym c.as_slice.ensures.value)) behind)),
+          (subst (λ (l : List ℕ). Adds (contents_of keeps c.self.inside.files.items coming) (contents_of keeps c.push_reserved.new.self.items coming) l) c.as_slice.ensures.value
+          (adds keeps c.self.inside.files.items c.push_reserved.new.self.items (record { rows = c.in-Ok.rows; bytes = c.if-self.bytes2 }) coming coming c.as_slice.result.now c.in-Ok.ensures.0 (bytes ∙ ap (λ (l : List ℕ). kept_bytes keeps l) (sym c.as_slice.ensures.value)) behind)),
       ap (λ (v : Contents). v.coming) c.self.view_is,
     )
 

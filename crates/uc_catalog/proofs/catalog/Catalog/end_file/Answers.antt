@@ -34,7 +34,7 @@ returns-in-Ok-clause-ended c = λ bytes comes.
     let finished = c.in-Ok.ensures.finished keeps bytes before in
     let behind = c.push_reserved.ensures.items ∙ ap (λ (l : List KeptFile). l ++ c.in-Ok.file ∷ []) c.reserve.ensures.items in (
       subst (λ (v : Contents). Adds v (contents_of keeps c.push_reserved.new.self.items c.take.new.self) bytes) c.self.view_is
-      (adds keeps c.self.inside.files.items c.push_reserved.new.self.items c.in-Ok.file c.self.inside.coming c.take.new.self bytes finished.0 finished.1 behind),
+          (adds keeps c.self.inside.files.items c.push_reserved.new.self.items c.in-Ok.file c.self.inside.coming c.take.new.self bytes finished.0 finished.1 behind),
       c.take.ensures.after,
     )
 
