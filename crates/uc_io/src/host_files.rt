@@ -38,6 +38,8 @@ impl Failure {
 pub struct HostFiles<R: host::Files> {
     rt: R,
     opened: Option<R::File>,
+    /// The name of the file that is open, where memory for it was there and no call on the file failed yet.
+    name: Option<String>,
     failure: Option<Failure>,
     faults: u64,
 }
@@ -53,6 +55,7 @@ impl<R: host::Files> HostFiles<R> {
         HostFiles {
             rt,
             opened: None,
+            name: None,
             failure: None,
             faults: 0,
         }
@@ -100,7 +103,8 @@ impl<R: host::Files> Pieces for HostFiles<R> {
         match read_some(file, into) {
             Ok(taken) => Ok(taken),
             Err(why) => {
-                self.fail(None, why);
+                let name = self.name.take();
+                self.fail(name, why);
                 Err(PieceFailed)
             }
         }
@@ -121,6 +125,7 @@ impl<R: host::Files> Files for HostFiles<R> {
         ensures later { failed_reads_of self.old ≤ failed_reads_of self.new }
     {
         self.opened = None;
+        self.name = None;
         match read_file(&self.rt, alloc, name, limit) {
             Ok(bytes) => Ok(bytes),
             Err(Unread::Failed(why)) => {
@@ -132,20 +137,23 @@ impl<R: host::Files> Files for HostFiles<R> {
         }
     }
 
-    /// Takes no memory but for the name of a file that cannot be opened.
+    /// Takes no memory but for the name, which a failure tells.
     fn open_file(&mut self, alloc: Global, name: &str) -> Result<(), OpenAnswer>
         ensures answer { IsOpened ⊥ [] [] (failed_reads_of self.old) (failed_reads_of self.new) result }
         ensures closed { OnErr result (left_in R.File.Read.remaining self.new ≡ Some []) }
         ensures later { failed_reads_of self.old ≤ failed_reads_of self.new }
     {
         self.opened = None;
+        self.name = None;
+        let kept = String::from_str(alloc, name).ok();
         match fs::open(&self.rt, name) {
             Ok(file) => {
                 self.opened = Some(file);
+                self.name = kept;
                 Ok(())
             }
             Err(why) => {
-                self.fail(String::from_str(alloc, name).ok(), why);
+                self.fail(kept, why);
                 Err(OpenAnswer::Failed)
             }
         }

@@ -181,6 +181,11 @@ fn a_folder_is_no_file(rt: HostRuntime) -> Result<(), Fail> {
     );
     assert!(rt; opened.is_ok());
     assert!(rt; piece == Err(PieceFailed));
+    assert!(rt;
+        files
+            .failure()
+            .is_some_and(|failure| failure.name() == Some(FOLDER))
+    );
     Ok(())
 }
 
