@@ -6,7 +6,7 @@ use Rattle.std.proofs.lemmas.List.Elements.{All-nil, All-cons}
 use Rattle.std.proofs.lemmas.List.FromFn.{length-map-range_with_len}
 use Rattle.std.proofs.lemmas.Bool.{false≢true}
 use Rattle.intel_format.specs.Header.{data_len}
-use Rattle.intel_format.specs.Update.{IntelUpdate, pair_at, entry_count}
+use Rattle.intel_format.specs.Update.{IsIntelUpdate, pair_at, entry_count}
 use Rattle.intel_format.specs.File.{FileUpdate, AreUpdates, IntelFile, joined}
 use Rattle.file_entries.specs.Entry.{Entry, update_entry, entries_of_updates}
 use Rattle.file_rows.specs.declared.updates.UpdateRow.{UpdateRow}

@@ -7,7 +7,7 @@ use Rattle.uc_bytes.specs.declared.causes.FileCause.{FileCause}
 use Rattle.uc_bytes.specs.declared.causes.FileCause.TheVariants.{ExtCut, ExtCount, Sum}
 use Rattle.intel_format.specs.declared.header.IntelHeader.{IntelHeader}
 use Rattle.intel_format.specs.Header.{header_of, data_len, total_len, header_triple}
-use Rattle.intel_format.specs.Update.{IntelUpdate, IsExtTable, IsSoundHeader, entry_count, pair_at}
+use Rattle.intel_format.specs.Update.{IsIntelUpdate, IsExtTable, IsSoundHeader, entry_count, pair_at}
 use Rattle.intel_format.specs.Checks.{IsFirstTableFault}
 use Rattle.intel_format.proofs.Front.{header_of-append}
 use Rattle.intel_ext.specs.SoFar.{IsTableSoFar}
@@ -31,7 +31,7 @@ begins p unit long header sound left some sum = record {
   has = record { long = omega (arith, long); header = header; sound = sound };
   left = omega (arith, long, left);
   some = some;
-  even = omega (arith, left, sound.data_even);
+  even = omega (arith, left, sound.data_in_words);
   sum = sum;
 }
 
@@ -43,7 +43,7 @@ module _ (p q : Progress) (done unit : List ℕ) (begun : InData p done) (even :
 
   sum_more : q.sum ≡ word_sum_of (done ++ unit)
   sum_more =
-      sum ∙ ap (λ (n : ℕ). (n + word_sum_of unit) % 2 ^ 32) begun.sum ∙ sym (sum-append done unit (omega (arith, begun.left, begun.even, begun.has.sound.data_even)))
+      sum ∙ ap (λ (n : ℕ). (n + word_sum_of unit) % 2 ^ 32) begun.sum ∙ sym (sum-append done unit (omega (arith, begun.left, begun.even, begun.has.sound.data_in_words)))
 
   left_more : length (done ++ unit) + q.left ≡ 48 + data_len q.header
   left_more = omega (arith, left, begun.left, length-append done unit, ap data_len header)
@@ -66,7 +66,7 @@ passes_cut p q done after header left some short =
       has = subst (λ (h : IntelHeader). HasHeader h done) (sym header) after.has;
       left = omega (arith, left, ap total_len header);
       some = some;
-      even = omega (arith, left, after.ended, after.has.sound.data_even, after.has.sound.total_even);
+      even = omega (arith, left, after.ended, after.has.sound.data_in_words, after.has.sound.total_in_words);
       doomed = subst (λ (h : IntelHeader). IsDoomed h done ExtCut) (sym header) doomed;
     }
 
@@ -87,7 +87,7 @@ module _ (p : Progress) (done head : List ℕ) (before : BeforeTable p done) (lo
       has = subst (λ (h : IntelHeader). HasHeader h (done ++ head)) (sym header) (has_on p.header done head before.after.has);
       left = omega (arith, left, long, length-append done head, ap total_len header);
       some = some;
-      even = omega (arith, left, before.after.ended, before.after.has.sound.data_even, before.after.has.sound.total_even);
+      even = omega (arith, left, before.after.ended, before.after.has.sound.data_in_words, before.after.has.sound.total_in_words);
       doomed = subst (λ (h : IntelHeader). IsDoomed h (done ++ head) ExtCount) (sym header) (doomed_here count counted other);
     }
 
@@ -160,6 +160,6 @@ module _ (p : Progress) (own : List ℕ) (pairs : List (ℕ × ℕ)) (is : HasTa
   sum_fails other =
       sum_fault_read p.header is.done is.table own is.split is.after.has is.after.ended is.whole pairs is.is_table (λ none. other (is.after.sum ∙ none))
 
-  pub sum_holds : p.sum ≡ 0 → IntelUpdate own p.header pairs
+  pub sum_holds : p.sum ≡ 0 → IsIntelUpdate own p.header pairs
   sum_holds none =
       update_read p.header is.done is.table own is.split is.after.has is.after.ended is.whole pairs is.is_table (sym is.after.sum ∙ none)

@@ -12,7 +12,7 @@ use Rattle.uc_bytes.specs.declared.causes.FileCause.TheVariants.{Short, SizeUnal
 use Rattle.uc_bytes.proofs.Fronts.{word-append}
 use Rattle.intel_format.specs.declared.header.IntelHeader.{IntelHeader}
 use Rattle.intel_format.specs.Header.{header_of, data_len, total_len, header_triple}
-use Rattle.intel_format.specs.Update.{IntelUpdate, IsTable, IsSoundHeader, entry_count}
+use Rattle.intel_format.specs.Update.{IsIntelUpdate, IsTable, IsSoundHeader, entry_count}
 use Rattle.intel_format.specs.Checks.{Fails, TableFails, header_checks, table_checks, body_checks, IsFirstTableFault, IsFirstHeaderFault, IsFirstFault, table_of, head_and_data}
 use Rattle.intel_format.specs.Settled.{IsCut}
 use Rattle.intel_format.proofs.Front.{header_of-append}
@@ -49,7 +49,7 @@ module _ (before : ℕ) (bytes : List ℕ) where
     header_pass : AllPass FailsHere header_checks
     header_pass =
         let short : FailsHere Short → ⊥ = λ fails. omega (arith, long, fails) in
-        let sizes : FailsHere SizeUnaligned → ⊥ = ⊎_elim (λ odd. odd sound.data_even) (λ odd. odd sound.total_even) in
+        let sizes : FailsHere SizeUnaligned → ⊥ = ⊎_elim (λ odd. odd sound.data_in_words) (λ odd. odd sound.total_in_words) in
         let total : FailsHere TotalSmall → ⊥ = λ fails. omega (arith, sound.header_fits, fails) in
         let data_end : FailsHere DataPastTotal → ⊥ = λ fails. omega (arith, sound.data_fits, fails) in
         let version : FailsHere Version → ⊥ = ⊎_elim (λ other. other sound.version) (λ other. other sound.loader) in
@@ -146,7 +146,7 @@ module _ (h : IntelHeader) (done table own : List ℕ) (split : own ≡ done ++ 
       λ cut. cut,
     )
 
-    pub update_read : word_sum_of done ≡ 0 → IntelUpdate own h pairs
+    pub update_read : word_sum_of done ≡ 0 → IsIntelUpdate own h pairs
     update_read sum = record {
       header = header_own;
       sound = has.sound;

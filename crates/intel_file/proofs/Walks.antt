@@ -4,7 +4,7 @@ use Rattle.std.proofs.lemmas.List.{append-nil}
 use Rattle.uc_bytes.specs.declared.causes.FileCause.{FileCause}
 use Rattle.uc_bytes.specs.declared.causes.FileCause.TheVariants.{Short, Truncated, TooMany}
 use Rattle.intel_format.specs.Header.{header_of, total_len}
-use Rattle.intel_format.specs.Update.{IntelUpdate, IsSoundHeader}
+use Rattle.intel_format.specs.Update.{IsIntelUpdate, IsSoundHeader}
 use Rattle.intel_format.specs.File.{FileUpdate, AreUpdates, joined, IntelFile, IsFault}
 use Rattle.intel_format.specs.Settled.{IsCut, IsSettled}
 use Rattle.intel_format.proofs.Front.{header_of-append}
@@ -23,7 +23,7 @@ joined-push : (us : List FileUpdate) (u : FileUpdate) → joined (us ++ u ∷ []
 joined-push [] u = append-nil u.bytes
 joined-push (v ∷ us) u = ap (λ (l : List ℕ). v.bytes ++ l) (joined-push us u) ∙ sym (append_assoc v.bytes (joined us) u.bytes)
 
-pub each-push : (us : List FileUpdate) (u : FileUpdate) → AreUpdates us → IntelUpdate u.bytes u.header u.pairs → AreUpdates (us ++ u ∷ [])
+pub each-push : (us : List FileUpdate) (u : FileUpdate) → AreUpdates us → IsIntelUpdate u.bytes u.header u.pairs → AreUpdates (us ++ u ∷ [])
 each-push [] u each is = (is, tt)
 each-push (v ∷ us) u each is = (each.0, each-push us u each.1 is)
 

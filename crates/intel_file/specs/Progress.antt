@@ -4,7 +4,7 @@ use Rattle.uc_bytes.specs.Words.{word_sum_of}
 use Rattle.uc_bytes.specs.declared.causes.FileCause.{FileCause}
 use Rattle.intel_format.specs.declared.header.IntelHeader.{IntelHeader}
 use Rattle.intel_format.specs.Header.{header_of, data_len, total_len, header_triple}
-use Rattle.intel_format.specs.Update.{IntelUpdate, IsSoundHeader, IsTable}
+use Rattle.intel_format.specs.Update.{IsIntelUpdate, IsSoundHeader, IsTable}
 use Rattle.intel_format.specs.Checks.{IsFirstFault}
 use Rattle.intel_format.specs.Settled.{IsCut}
 use Rattle.intel_file.specs.declared.progress.Stage.{Stage}
@@ -103,5 +103,5 @@ IsWithin p n = IsWithinStage p.stage p.left n
 -- what these bytes lead to: more are to come, or they are an update with these pairs, or have a fault
 abbrev pub IsCome : List ℕ → List (ℕ × ℕ) → Progress → End → Type 0
 IsCome own pairs p More = IsAt p own pairs
-IsCome own pairs p (Whole count) = IntelUpdate own p.header pairs × (count ≡ length pairs) × IsAt p [] []
+IsCome own pairs p (Whole count) = IsIntelUpdate own p.header pairs × (count ≡ length pairs) × IsAt p [] []
 IsCome own pairs p (Fault cause) = IsUpdateFault own cause

@@ -4,7 +4,7 @@ use Rattle.std.proofs.lemmas.List.{take-append-le}
 use Rattle.uc_bytes.specs.Words.{word_sum_of}
 use Rattle.intel_format.specs.declared.header.IntelHeader.{IntelHeader}
 use Rattle.intel_format.specs.Header.{header_of, data_len, total_len, header_triple}
-use Rattle.intel_format.specs.Update.{IntelUpdate, IsTable, IsSoundHeader}
+use Rattle.intel_format.specs.Update.{IsIntelUpdate, IsTable, IsSoundHeader}
 use Rattle.intel_format.specs.Checks.{table_of, head_and_data}
 use Rattle.intel_format.proofs.Front.{header_of-append}
 
@@ -26,5 +26,5 @@ module _ (bytes : List ℕ) (pairs : List (ℕ × ℕ)) (sound : IsSoundHeader (
   same_data =
       sym (take-append-le (48 + data_len h) front (drop (total_len h) bytes) (omega (arith, front_long, sound.data_fits))) ∙ ap (λ (l : List ℕ). take (48 + data_len h) l) (take-append-drop (total_len h) bytes)
 
-  pub update_at_front : word_sum_of (head_and_data bytes) ≡ 0 → IsTable (header_triple h) (table_of bytes) pairs → IntelUpdate front h pairs
+  pub update_at_front : word_sum_of (head_and_data bytes) ≡ 0 → IsTable (header_triple h) (table_of bytes) pairs → IsIntelUpdate front h pairs
   update_at_front sum table = record { header = sym same_header; sound = sound; whole = front_long; sum = ap word_sum_of same_data ∙ sum; table = table }

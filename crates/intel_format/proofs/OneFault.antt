@@ -4,7 +4,7 @@ use Rattle.std.proofs.lemmas.Bool.{cases_lt}
 use Rattle.std.proofs.lemmas.List.{take_at, drop_at, take_all}
 use Rattle.first_fault.proofs.Search.{first_fails, one_first}
 use Rattle.uc_bytes.specs.declared.causes.FileCause.{FileCause}
-use Rattle.intel_format.specs.Update.{IntelUpdate}
+use Rattle.intel_format.specs.Update.{IsIntelUpdate}
 use Rattle.intel_format.specs.Checks.{Fails, IsFirstFault, update_checks}
 use Rattle.intel_format.specs.File.{FileUpdate, AreUpdates, joined, IntelFile, IsFault}
 use Rattle.intel_format.proofs.OneReading.{one_front, one_reading}
@@ -14,7 +14,7 @@ use Rattle.intel_format.proofs.Passes.{update_passes}
 pub record Front (bytes : List ℕ) : Type 0 where
   pub update : FileUpdate
   pub rest : List ℕ
-  pub is : IntelUpdate update.bytes update.header update.pairs
+  pub is : IsIntelUpdate update.bytes update.header update.pairs
   pub split : bytes ≡ update.bytes ++ rest
 
 -- where some updates reach further than others, an update begins behind those others, and there are fewer of them

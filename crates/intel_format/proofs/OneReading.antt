@@ -3,12 +3,12 @@ use Rattle.std.proofs.Common.{◌≡◌, inl, inr, ℕ, ◌+◌, ◌≤◌, List
 use Rattle.std.proofs.lemmas.List.{take_at, drop_at}
 use Rattle.intel_format.specs.declared.header.IntelHeader.{IntelHeader}
 use Rattle.intel_format.specs.Header.{header_of, data_len, total_len, header_triple}
-use Rattle.intel_format.specs.Update.{IntelUpdate, IsTable}
+use Rattle.intel_format.specs.Update.{IsIntelUpdate, IsTable}
 use Rattle.intel_format.specs.File.{FileUpdate, AreUpdates, joined}
 use Rattle.intel_format.proofs.Front.{header_of-append}
 
 -- an update is as long as its header says, and no shorter than that header
-pub update_long : (bytes : List ℕ) (h : IntelHeader) (pairs : List (ℕ × ℕ)) → IntelUpdate bytes h pairs → 48 ≤ length bytes
+pub update_long : (bytes : List ℕ) (h : IntelHeader) (pairs : List (ℕ × ℕ)) → IsIntelUpdate bytes h pairs → 48 ≤ length bytes
 update_long bytes h pairs update = omega (arith, update.whole, update.sound.header_fits)
 
 -- a table has its pairs
@@ -19,11 +19,11 @@ one_table triple rest p q (inr a) (inl b) = absurd (omega (arith, a.whole, ap le
 one_table triple rest p q (inr a) (inr b) = a.entries ∙ sym b.entries
 
 -- what follows an update does not change its header
-pub header_at_front : (u : FileUpdate) (rest : List ℕ) → IntelUpdate u.bytes u.header u.pairs → header_of (u.bytes ++ rest) ≡ u.header
+pub header_at_front : (u : FileUpdate) (rest : List ℕ) → IsIntelUpdate u.bytes u.header u.pairs → header_of (u.bytes ++ rest) ≡ u.header
 header_at_front u rest update = header_of-append u.bytes rest (update_long _ _ _ update) ∙ sym update.header
 
 -- two updates at the front of the same bytes are one, and so is what follows them
-pub one_front : (u v : FileUpdate) (rest more : List ℕ) → IntelUpdate u.bytes u.header u.pairs → IntelUpdate v.bytes v.header v.pairs → u.bytes ++ rest ≡ v.bytes ++ more → (u ≡ v) × (rest ≡ more)
+pub one_front : (u v : FileUpdate) (rest more : List ℕ) → IsIntelUpdate u.bytes u.header u.pairs → IsIntelUpdate v.bytes v.header v.pairs → u.bytes ++ rest ≡ v.bytes ++ more → (u ≡ v) × (rest ≡ more)
 one_front u v rest more first second same =
     let headers : u.header ≡ v.header = sym (header_at_front u rest first) ∙ ap header_of same ∙ header_at_front v more second in
     let lengths : length u.bytes ≡ length v.bytes = first.whole ∙ ap total_len headers ∙ sym second.whole in

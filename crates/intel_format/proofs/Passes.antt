@@ -6,7 +6,7 @@ use Rattle.uc_bytes.specs.declared.causes.FileCause.{FileCause}
 use Rattle.uc_bytes.specs.declared.causes.FileCause.TheVariants.{Short, SizeUnaligned, TotalSmall, DataPastTotal, Version, Truncated, ExtCut, ExtCount, ExtSum, EntrySum, Sum, TooMany}
 use Rattle.intel_format.specs.declared.header.IntelHeader.{IntelHeader}
 use Rattle.intel_format.specs.Header.{header_of, data_len, total_len, header_triple}
-use Rattle.intel_format.specs.Update.{IntelUpdate, IsTable, IsExtTable, IsSoundHeader}
+use Rattle.intel_format.specs.Update.{IsIntelUpdate, IsTable, IsExtTable, IsSoundHeader}
 use Rattle.intel_format.specs.Checks.{Fails, TableFails, table_of, head_and_data}
 use Rattle.intel_format.specs.File.{FileUpdate}
 use Rattle.intel_format.proofs.OneReading.{header_at_front}
@@ -16,7 +16,7 @@ sound_passes : (before : ℕ) (bytes : List ℕ) (cause : FileCause) → before 
     → (0 < length (table_of bytes) → TableFails (header_triple (header_of bytes)) (table_of bytes) cause → ⊥) → Fails before bytes cause → ⊥
 sound_passes before bytes TooMany few sound long sum table fails = omega arith
 sound_passes before bytes Short few sound long sum table fails = omega (arith, sound.header_fits)
-sound_passes before bytes SizeUnaligned few sound long sum table fails = ⊎_elim (λ odd. odd sound.data_even) (λ odd. odd sound.total_even) fails
+sound_passes before bytes SizeUnaligned few sound long sum table fails = ⊎_elim (λ odd. odd sound.data_in_words) (λ odd. odd sound.total_in_words) fails
 sound_passes before bytes TotalSmall few sound long sum table fails = omega (arith, sound.header_fits)
 sound_passes before bytes DataPastTotal few sound long sum table fails = omega (arith, sound.data_fits)
 sound_passes before bytes Version few sound long sum table fails = ⊎_elim (λ other. other sound.version) (λ other. other sound.loader) fails
@@ -36,7 +36,7 @@ pub some_table : (triple : ℕ) (table : List ℕ) (pairs : List (ℕ × ℕ)) (
 some_table triple table pairs cause (inl none) long fails = absurd (omega (arith, ap length none.0))
 some_table triple table pairs cause (inr is) long fails = table_passes triple table pairs cause is fails
 
-pub update_passes : (before : ℕ) (u : FileUpdate) (rest : List ℕ) (cause : FileCause) → before < 65536 → IntelUpdate u.bytes u.header u.pairs → Fails before (u.bytes ++ rest) cause → ⊥
+pub update_passes : (before : ℕ) (u : FileUpdate) (rest : List ℕ) (cause : FileCause) → before < 65536 → IsIntelUpdate u.bytes u.header u.pairs → Fails before (u.bytes ++ rest) cause → ⊥
 update_passes before u rest cause few update =
     let bytes = u.bytes ++ rest in
     let same : header_of bytes ≡ u.header = header_at_front u rest update in

@@ -43,8 +43,8 @@ module _ (before : ℕ) (bytes : List ℕ) where
   -- a header is sound where its checks pass
   pub sound_header : AllPass (Fails before bytes) header_checks → IsSoundHeader h
   sound_header (long, (sizes, (total, (past, (version, all))))) = record {
-    data_even = same_or (λ odd. sizes (inl odd));
-    total_even = same_or (λ odd. sizes (inr odd));
+    data_in_words = same_or (λ odd. sizes (inl odd));
+    total_in_words = same_or (λ odd. sizes (inr odd));
     header_fits = at_least total;
     data_fits = at_least past;
     version = same_or (λ other. version (inl other));

@@ -2,7 +2,7 @@
 use Rattle.std.specs.Prelude.{◌≡◌, ◌<◌, ◌≤◌, ℕ, List, [], ◌∷◌, ◌++◌, length, take}
 use Rattle.uc_bytes.specs.declared.causes.FileCause.{FileCause}
 use Rattle.intel_format.specs.declared.header.IntelHeader.{IntelHeader}
-use Rattle.intel_format.specs.Update.{IntelUpdate}
+use Rattle.intel_format.specs.Update.{IsIntelUpdate}
 use Rattle.intel_format.specs.Checks.{IsFirstFault}
 
 -- an update of a file: its bytes, its header, and the signatures and flags in its table
@@ -14,7 +14,7 @@ pub record FileUpdate : Type 0 where
 -- each is an update
 abbrev pub AreUpdates : List FileUpdate → Type 0
 AreUpdates [] = Unit {0}
-AreUpdates (u ∷ us) = IntelUpdate u.bytes u.header u.pairs × AreUpdates us
+AreUpdates (u ∷ us) = IsIntelUpdate u.bytes u.header u.pairs × AreUpdates us
 
 -- their bytes, one update after another
 abbrev pub joined : List FileUpdate → List ℕ

@@ -32,15 +32,15 @@ IsTable triple rest pairs = ((rest ≡ []) × (pairs ≡ [])) ⊎ IsExtTable tri
 
 -- the sizes that a header states go with each other, and it is of the one version that there is
 pub record IsSoundHeader (h : IntelHeader) : Type 0 where
-  pub data_even : data_len h % 4 ≡ 0
-  pub total_even : total_len h % 4 ≡ 0
+  pub data_in_words : data_len h % 4 ≡ 0
+  pub total_in_words : total_len h % 4 ≡ 0
   pub header_fits : 48 ≤ total_len h
   pub data_fits : 48 + data_len h ≤ total_len h
   pub version : h.version ≡ 1
   pub loader : h.loader ≡ 1
 
 -- the bytes are an update with this header, and with these signatures and flags in its table
-pub record IntelUpdate (bytes : List ℕ) (h : IntelHeader) (pairs : List (ℕ × ℕ)) : Type 0 where
+pub record IsIntelUpdate (bytes : List ℕ) (h : IntelHeader) (pairs : List (ℕ × ℕ)) : Type 0 where
   pub header : h ≡ header_of bytes
   pub sound : IsSoundHeader h
   pub whole : length bytes ≡ total_len h

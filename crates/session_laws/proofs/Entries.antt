@@ -4,7 +4,7 @@ use Rattle.std.specs.List.{All}
 use Rattle.std.proofs.lemmas.List.Elements.{All-nil, All-cons, All-append}
 use Rattle.std.proofs.lemmas.Option.{get_or_from_slice_get}
 use Rattle.uc_bytes.specs.Words.{word}
-use Rattle.intel_format.specs.Update.{IntelUpdate}
+use Rattle.intel_format.specs.Update.{IsIntelUpdate}
 use Rattle.intel_format.specs.File as intel
 use Rattle.amd_format.specs.Equiv.{rows_of}
 use Rattle.amd_format.specs.Patch.{IsSection, patch_of}
@@ -37,7 +37,7 @@ both_have : (entries others : List Entry) → HaveRevisions entries → HaveRevi
     HaveRevisions (entries ++ others)
 both_have entries others have too = All-append (λ (entry : Entry). HasRevision entry) entries others have too
 
-update_has : (file start : ℕ) (update : intel.FileUpdate) → IntelUpdate update.bytes update.header update.pairs →
+update_has : (file start : ℕ) (update : intel.FileUpdate) → IsIntelUpdate update.bytes update.header update.pairs →
     HasRevision (update_entry file start update)
 update_has file start update is = record {
   long = omega (arith, is.whole, is.sound.header_fits);
