@@ -140,7 +140,8 @@ fn a_sink_without_room_has_a_front_of_the_text(rt: HostRuntime) -> Result<(), Fa
 #[test]
 fn a_read_that_fails_is_named(rt: HostRuntime) -> Result<(), Fail> {
     let alloc = rt.alloc();
-    let names = ["t1", "a.bin", "z.bin"];
+    // A topology is read by one call. An update file takes three: it is opened, one piece is taken, and its end is found.
+    let names = ["t1", "a.bin", "a.bin", "a.bin", "z.bin", "z.bin", "z.bin"];
     for (place, name) in names.iter().enumerate() {
         let mut files = sample_files(alloc)?;
         files.fail_at(place as u32 + 1)?;
