@@ -160,8 +160,8 @@ impl FileReader {
         }
     }
 
-    /// Takes the next bytes of the file, which has at most 67,108,864. It answers a fault exactly where the bytes have one
-    /// that no further bytes undo, and later calls answer it again; without memory all is as before.
+    /// Takes the next bytes of the file, which has at most 67,108,864. It answers a fault exactly where the bytes have
+    /// one that no further bytes undo, and later calls answer it again; without memory all is as before.
     pub fn feed(&mut self, piece: &[u8]) -> Result<(), FileAnswer>
         requires { fed_of self.old + length piece.now ≤ 67108864 }
         ensures fed { fed_of self.new ≤ fed_of self.old + length piece.now }

@@ -21,8 +21,8 @@ abbrev pub sum_of : Reading → FileSum
 sum_of (OfIntel updates) = record { vendor = Intel; entries = length updates }
 sum_of (OfAmd containers) = record { vendor = Amd; entries = patches_in containers }
 
--- whether the bytes of files are kept, the files, the entries of all of them, and the file that is being read, if pieces
--- of one came
+-- whether the bytes of files are kept, the files, the entries of all of them, and the file that is being read, if
+-- pieces of one came
 pub record Contents : Type 0 where
   pub keeps : Bool
   pub files : List FileSum
@@ -80,8 +80,8 @@ Comes bytes contents = ComesBy contents.keeps bytes contents.coming
 abbrev pub fed_of : Contents → ℕ
 fed_of contents = fed_by contents.coming
 
--- what a piece leads to: a fault that no further bytes undo, exactly where there is one; without memory the bytes are those
--- that came before
+-- what a piece leads to: a fault that no further bytes undo, exactly where there is one; without memory the bytes are
+-- those that came before
 abbrev pub IsFed : List ℕ → List ℕ → Contents → Result (Unit {0}) FileAnswer → Type 0
 IsFed bytes piece new (Ok _) = Comes (bytes ++ piece) new × IsUnsettled (bytes ++ piece)
 IsFed bytes piece new (Err (Fault fault)) =

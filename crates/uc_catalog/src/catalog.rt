@@ -93,8 +93,9 @@ impl Catalog {
         Ok(())
     }
 
-    /// Takes the next bytes of the file that is being read, which has at most 67,108,864. It answers a fault exactly where
-    /// its bytes have one that no further bytes undo, and later calls answer it again. Files and entries stay as they were.
+    /// Takes the next bytes of the file that is being read, which has at most 67,108,864. It answers a fault exactly
+    /// where its bytes have one that no further bytes undo, and later calls answer it again. Files and entries stay as
+    /// they were.
     pub fn feed(&mut self, piece: &[u8]) -> Result<(), FileAnswer>
         requires { fed_of self.old + length piece.now ≤ 67108864 }
         ensures same { self.new ≡ with_coming self.new.coming self.old }
@@ -107,8 +108,8 @@ impl Catalog {
         answer
     }
 
-    /// Adds the file that was read, of which no more bytes come, as `add` would; with no piece fed, the empty file. At most
-    /// 15 files stand. Where it is refused, it is forgotten; without memory all stays as it was.
+    /// Adds the file that was read, of which no more bytes come, as `add` would; with no piece fed, the empty file. At
+    /// most 15 files stand. Where it is refused, it is forgotten; without memory all stays as it was.
     pub fn end_file(&mut self) -> Result<(), FileAnswer>
         requires { length self.old.files < 16 }
         ensures ended { (bytes : List ℕ) → Comes bytes self.old → IsEnded self.old self.new bytes result }

@@ -75,7 +75,8 @@ impl Coming {
 
     /// What is kept of the file, of which no more bytes come, or its first fault.
     pub fn finish(self) -> Result<KeptFile, FileFault>
-        ensures finished { (keeps : Bool) (bytes : List ℕ) → ComesIn keeps bytes self → IsFinishedIn keeps bytes result }
+        ensures finished { (keeps : Bool) (bytes : List ℕ) → ComesIn keeps bytes self
+            → IsFinishedIn keeps bytes result }
         ensures few { IfOk result HasFewPairsIn }
     {
         match self.reader.finish() {

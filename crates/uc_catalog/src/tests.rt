@@ -157,6 +157,50 @@ fn a_catalogue_of_facts_keeps_no_bytes_and_tells_the_same(rt: HostRuntime) -> Re
     Ok(())
 }
 
+/// Feeds a file in two pieces, in place of one that was being read, and ends it; every file here is short.
+fn add_in_two(catalog: &mut Catalog, front: &[u8], rest: &[u8]) -> Result<(), FileAnswer> {
+    if catalog.files() >= 16 || front.len() > 1_024 || rest.len() > 1_024 {
+        return Err(FileAnswer::NoMemory);
+    }
+    catalog.drop_file();
+    catalog.feed(front)?;
+    catalog.feed(rest)?;
+    catalog.end_file()
+}
+
+#[test]
+fn a_file_in_pieces_is_added_as_a_whole_one(rt: HostRuntime) -> Result<(), Fail> {
+    let alloc = rt.alloc();
+    let file = with_table(alloc)?;
+    let bytes = file.as_slice();
+    let pairs = [(0x0009_06ea, 2), (0x0009_06eb, 2), (0x0009_06ec, 0x22)];
+    for cut in 0..=bytes.len() {
+        let mut catalog = Catalog::new(alloc);
+        let answer = add_in_two(&mut catalog, &bytes[..cut], &bytes[cut..]);
+        assert_eq!(rt; answer, Ok(()), "{cut}");
+        assert_eq!(rt; three_pairs(&catalog, 0), Some(pairs), "{cut}");
+        if catalog.len() == 1 && catalog.keeps_bytes() {
+            assert_eq!(rt; catalog.bytes_of(0), bytes, "{cut}");
+        }
+    }
+    let mut catalog = Catalog::of_facts(alloc);
+    for cut in 1..bytes.len() {
+        let cause = if cut < 48 {
+            FileCause::Short
+        } else {
+            FileCause::Truncated
+        };
+        let fault = FileAnswer::Fault(FileFault { offset: 0, cause });
+        let answer = add_in_two(&mut catalog, &bytes[..cut], &[]);
+        assert_eq!(rt; answer, Err(fault), "{cut}");
+        assert_eq!(rt; catalog.files(), 0, "{cut}");
+    }
+    let answer = add_in_two(&mut catalog, bytes, &[]);
+    assert_eq!(rt; answer, Ok(()));
+    assert_eq!(rt; (catalog.files(), catalog.len()), (1, 1));
+    Ok(())
+}
+
 #[test]
 fn an_empty_file_has_a_vendor_and_no_entry(rt: HostRuntime) -> Result<(), Fail> {
     let mut catalog = Catalog::new(rt.alloc());

@@ -18,11 +18,12 @@ in_place place update.ReadFault = files.Unread place
 in_place place (update.BadFile fault) = files.Refused place fault
 in_place place update.NoMemory = files.NoMemory
 
--- the file stands in the catalogue, or is refused and the files and entries are as they were; no file is being read then.
--- Only a failed read raises the count of faults.
+-- the file stands in the catalogue, or is refused and the files and entries are as they were; no file is being read
+-- then. Only a failed read raises the count of faults.
 abbrev pub IsUpdateRead : Type 0 → List ℕ → ℕ → ℕ → Contents → Contents → Result (Unit {0}) UpdateAnswer → Type 0
 IsUpdateRead tells held before now old new (Ok _) =
-    (now ≡ before) × ((bytes : List ℕ) × (length bytes ≤ FILE_LIMIT) × (tells → bytes ≡ held) × Adds old new bytes × (new.coming ≡ None))
+    (now ≡ before)
+    × ((bytes : List ℕ) × (length bytes ≤ FILE_LIMIT) × (tells → bytes ≡ held) × Adds old new bytes × (new.coming ≡ None))
 IsUpdateRead tells held before now old new (Err update.ReadFault) = Rose before now × (new ≡ with_coming None old)
 IsUpdateRead tells held before now old new (Err (update.BadFile fault)) =
     (now ≡ before) × ((bytes : List ℕ) × (tells → bytes ≡ held) × Refuses bytes fault.offset fault.cause)

@@ -13,7 +13,8 @@ use uc_io::{Files, PieceFailed};
 /// How many bytes one piece has at most.
 const PIECE: usize = 65_536;
 
-/// Feeds a piece, unless the bytes before it have a fault that no further bytes undo; tells the fault that they have with it.
+/// Feeds a piece, unless the bytes before it have a fault that no further bytes undo; tells the fault that they have
+/// with it.
 fn feed_piece(
     catalog: &mut Catalog,
     fault: Option<FileFault>,
@@ -35,11 +36,12 @@ fn feed_piece(
     }
 }
 
-/// Takes the open file to its end or past its limit, also behind a fault that stays, and feeds it up to there. Each turn
-/// takes at least one byte or is the last.
+/// Takes the open file to its end or past its limit, also behind a fault that stays, and feeds it up to there. Each
+/// turn takes at least one byte or is the last.
 pub fn feed_pieces<F: Files>(catalog: &mut Catalog, files: &mut F) -> Result<(), UpdateAnswer>
     requires { catalog.old.coming ≡ None }
-    ensures answer { ArePiecesFed (F.tells files.old) (F.left files.old) (F.faults files.old) (F.faults files.new) catalog.new result }
+    ensures answer { ArePiecesFed (F.tells files.old) (F.left files.old) (F.faults files.old) (F.faults files.new)
+        catalog.new result }
     ensures kept { catalog.new ≡ with_coming catalog.new.coming catalog.old }
     ensures same { F.holds files.new ≡ F.holds files.old }
     ensures still { F.tells files.old → F.tells files.new }

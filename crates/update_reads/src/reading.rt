@@ -9,8 +9,8 @@ use uc_bytes::Text;
 use uc_catalog::Catalog;
 use uc_io::{Files, OpenAnswer};
 
-/// Reads the update file of a name piece by piece and adds it to the catalogue, or says why not: the files and entries are
-/// then as they were. Pieces that were fed before are forgotten.
+/// Reads the update file of a name piece by piece and adds it to the catalogue, or says why not: the files and entries
+/// are then as they were. Pieces that were fed before are forgotten.
 pub fn read_update<F: Files>(
     alloc: Global,
     catalog: &mut Catalog,
