@@ -10,7 +10,7 @@ use Rattle.machine_steps.specs.declared.states.Power.TheVariants.{On}
 use Rattle.machine_steps.specs.Hardware.{Setting, Hardware, is_off, with_power, threads_of}
 use Rattle.machine_steps.specs.BringUps.{bring_up_each}
 use Rattle.machine_steps.specs.Puts.{Puts, is_cached}
-use Rattle.early_load.specs.Caches.{first_block, place_at, cached_patches, IsHeld, HoldsJustCached}
+use Rattle.early_load.specs.Caches.{first_block, place_at, cached_patches, HoldsPatch, HoldsJustCached}
 use Rattle.early_load.specs.Puts.{ArePut, IsElsewhere}
 use Rattle.early_load.specs.Boots.{State, IsBooted, offered}
 use Rattle.early_load.proofs.Kept.{cached_is, at_itself}
@@ -36,7 +36,7 @@ is_booted setting row offers old on now after places cached ups off are powered 
     }
 
 pub just_cached_then : (groups : ℕ) (start after : Patches) (places : List (Option PatchId)) (cached : ℕ → Option ℕ) → length places ≡ groups → cached ≡ place_at places → start ≡ no_patches
-    → ((g first : ℕ) → place_at places g ≡ Some first → IsHeld (after first)) → ((block : ℕ) → IsElsewhere places block → after block ≡ start block) → HoldsJustCached groups after cached
+    → ((g first : ℕ) → place_at places g ≡ Some first → HoldsPatch (after first)) → ((block : ℕ) → IsElsewhere places block → after block ≡ start block) → HoldsJustCached groups after cached
 just_cached_then groups start after places cached size keeps empty held others = record {
   each = λ g first below is. held g first (ap (λ (c : ℕ → Option ℕ). c g) (sym keeps) ∙ is);
   only = λ block some.

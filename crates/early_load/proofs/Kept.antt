@@ -9,7 +9,7 @@ use Rattle.std.specs.List.{find}
 use Rattle.region_steps.proofs.Rows.{any_passes, none_passes}
 use Rattle.region_steps.proofs.Changed.{out_here, out_other}
 use Rattle.machine_steps.specs.Puts.{is_at, is_cached, swept}
-use Rattle.early_load.specs.Caches.{AreHeld, IsHeld, HoldsJustCached}
+use Rattle.early_load.specs.Caches.{CachesHold, HoldsPatch, HoldsJustCached}
 
 -- ---- a group that caches a block's patch
 
@@ -80,11 +80,11 @@ swept_whole groups cached old new blocks stands done left =
       | inr past ↦ left block past ∙ sym (swept_past groups cached old blocks block stands past)
     ])
 
-pub just_cached : (groups : ℕ) (cached : ℕ → Option ℕ) (old new : Patches) → new ≡ swept groups cached old → AreHeld groups old cached → HoldsJustCached groups new cached
+pub just_cached : (groups : ℕ) (cached : ℕ → Option ℕ) (old new : Patches) → new ≡ swept groups cached old → CachesHold groups old cached → HoldsJustCached groups new cached
 just_cached groups cached old new e held = record {
   each = λ g first below is.
       let stays = ap (λ (patches : Patches). patches first) e ∙ swept_stays groups cached old first (cached_is groups cached first g below (at_itself first (cached g) is)) in
-      subst IsHeld (sym stays) (held g first below is);
+      subst HoldsPatch (sym stays) (held g first below is);
   only = λ block some.
       elim (cases_Bool (is_cached groups cached block)) [
         | inl is ↦ is

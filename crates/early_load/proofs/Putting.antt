@@ -12,7 +12,7 @@ use Rattle.patch_pool.specs.declared.pool.PatchId.{PatchId}
 use Rattle.machine_steps.specs.Hardware.{put}
 use Rattle.machine_steps.specs.Puts.{Puts, no_puts, with_patch, put_in_run, put_unless_there, put_offer, put_offers, first_of, is_at, is_cached}
 use Rattle.uc_catalog.specs.Contents.{Contents}
-use Rattle.early_load.specs.Caches.{first_block, place_at, IsHeld}
+use Rattle.early_load.specs.Caches.{first_block, place_at, HoldsPatch}
 use Rattle.early_load.specs.Puts.{bytes_at, offer_of, puts_of, ArePut, IsElsewhere, without}
 use Rattle.early_load.proofs.Kept.{at_itself, at_means, cached_is, cached_is_not, cached_more}
 use Rattle.early_load.proofs.Freeing.{neither}
@@ -53,7 +53,7 @@ pub record PutSoFar (blocks : ℕ) (contents : Contents) (offers : List (Option 
   pub place : (h : ℕ) → h < g → place_at places h ≡ first_of puts (offer_of offers h)
   pub offered : (entry first : ℕ) → puts.first entry ≡ Some first → (h : ℕ) × (h < g) × (offer_of offers h ≡ Some entry)
   pub there : (h : ℕ) → h < g → (entry : ℕ) → offer_of offers h ≡ Some entry → puts.first entry ≡ None → ⊥
-  pub held : (h : ℕ) → h < g → (first : ℕ) → place_at places h ≡ Some first → IsHeld (now first)
+  pub held : (h : ℕ) → h < g → (first : ℕ) → place_at places h ≡ Some first → HoldsPatch (now first)
   pub was_free : (h : ℕ) → h < g → (first : ℕ) → place_at places h ≡ Some first → start first ≡ None
   pub others : (block : ℕ) → is_cached g (place_at places) block ≡ false → now block ≡ start block
 
@@ -84,7 +84,7 @@ same_puts : (blocks : ℕ) (contents : Contents) (offers : List (Option ℕ)) (s
     → put_offer blocks (bytes_at contents) so_far.puts (offer_of offers g) ≡ Ok so_far.puts
     → first_block place ≡ first_of so_far.puts (offer_of offers g)
     → ((entry : ℕ) → offer_of offers g ≡ Some entry → so_far.puts.first entry ≡ None → ⊥)
-    → ((first : ℕ) → first_block place ≡ Some first → IsHeld (now first) × (start first ≡ None))
+    → ((first : ℕ) → first_block place ≡ Some first → HoldsPatch (now first) × (start first ≡ None))
     → PutSoFar blocks contents offers start now (places ++ place ∷ []) (g + 1)
 same_puts blocks contents offers start now places g place so_far below puts is there stands =
     let old = λ (h : ℕ) (lt : h < g). old_place places place h (omega (arith, lt, so_far.size)) in
@@ -195,7 +195,7 @@ module _ (blocks : ℕ) (contents : Contents) (offers : List (Option ℕ)) (star
 
     -- no patch so far begins there
     apart : (h : ℕ) → h < g → place_at places h ≡ Some id.0 → ⊥
-    apart h lt e = subst IsHeld was_none (so_far.held h lt id.0 e)
+    apart h lt e = subst HoldsPatch was_none (so_far.held h lt id.0 e)
 
     start_none : start id.0 ≡ None
     start_none =
@@ -246,10 +246,10 @@ module _ (blocks : ℕ) (contents : Contents) (offers : List (Option ℕ)) (star
               let put_it : put so_far.puts.first entry (Some id.0) other ≡ Some id.0 = ap (put so_far.puts.first entry (Some id.0)) same ∙ put_same so_far.puts.first entry (Some id.0) in
               let wrong : None ≡ Some id.0 = sym none ∙ put_it in absurd cc);
           held = below_more _ _
-              (λ h lt first e. let at = sym (old h lt) ∙ e in subst IsHeld (sym (stays first (elsewhere h lt first at))) (so_far.held h lt first at))
+              (λ h lt first e. let at = sym (old h lt) ∙ e in subst HoldsPatch (sym (stays first (elsewhere h lt first at))) (so_far.held h lt first at))
               (λ first e.
               let stands : after first ≡ Some (bytes_at contents entry) = ap after (here first e) ∙ stands_there in
-              let eight : IsHeld (Some (bytes_at contents entry)) = omega (arith, new.header) in subst IsHeld (sym stands) eight);
+              let eight : HoldsPatch (Some (bytes_at contents entry)) = omega (arith, new.header) in subst HoldsPatch (sym stands) eight);
           was_free = below_more _ _ (λ h lt first e. so_far.was_free h lt first (sym (old h lt) ∙ e)) (λ first e. ap start (here first e) ∙ start_none);
           others = λ block not.
               let parts = not_yet places (Some id) g block so_far.size not in
@@ -275,7 +275,7 @@ module _ (blocks : ℕ) (contents : Contents) (offers : List (Option ℕ)) (star
     ];
   }
 
-  pub all_held : (h first : ℕ) → place_at places h ≡ Some first → IsHeld (now first)
+  pub all_held : (h first : ℕ) → place_at places h ≡ Some first → HoldsPatch (now first)
   all_held h first e =
       elim (cases_lt h g) [
         | inl below ↦ so_far.held h below first e

@@ -10,7 +10,7 @@ use Rattle.machine_steps.specs.Calls.{may_come_up, wake, power_on}
 use Rattle.early_load.specs.declared.wanted.Wanted.{Wanted}
 use Rattle.early_load.specs.declared.wanted.Wanted.TheVariants.{Every, Remembered}
 use Rattle.early_load.specs.Wanted.{wants}
-use Rattle.machine_steps.specs.BringUps.{Patches, above, to_write, Brought, brought, bring_up, AllBrought, bring_up_each, and_then, resume, resume_from}
+use Rattle.machine_steps.specs.BringUps.{CachedPatches, above, to_write, Brought, brought, bring_up, AllBrought, bring_up_each, and_then, resume, resume_from}
 
 -- ---- one thread
 
@@ -22,13 +22,13 @@ on_where_may hardware after t e = grind arith
 pub may_where_cold : (hardware : Hardware) (t : ℕ) → is_on hardware.power ≡ true → is_cold (hardware.thread t) ≡ true → may_come_up hardware t ≡ Ok hardware
 may_where_cold hardware t on cold = grind arith
 
-bring_up_is : (setting : Setting) (patches : Patches) (hardware : Hardware) (t : ℕ) (new : Option ℕ) → new ≡ to_write setting patches hardware (setting.group t)
+bring_up_is : (setting : Setting) (patches : CachedPatches) (hardware : Hardware) (t : ℕ) (new : Option ℕ) → new ≡ to_write setting patches hardware (setting.group t)
     → brought (with_thread hardware t Up) t (setting.group t) new (hardware.refuses (setting.group t)) ≡ bring_up setting patches hardware t
 bring_up_is setting patches hardware t new e =
     ap (λ (o : Option ℕ). brought (with_thread hardware t Up) t (setting.group t) o (hardware.refuses (setting.group t))) e
 
 -- the code's way to what a thread does that comes up: what is newer than the group's revision, written by the first one
-pub brought_as : (setting : Setting) (patches : Patches) (old now : Hardware) (t g : ℕ) (first : Bool) (newer new : Option ℕ) (all : Brought)
+pub brought_as : (setting : Setting) (patches : CachedPatches) (old now : Hardware) (t g : ℕ) (first : Bool) (newer new : Option ℕ) (all : Brought)
     → g ≡ setting.group t → first ≡ all_cold setting old (setting.group t) → newer ≡ above (old.rev g) (patches g) → new ≡ (if first then newer else None)
     → now ≡ with_thread old t Up → all ≡ brought now t g new (now.refuses g) → all ≡ bring_up setting patches old t
 brought_as setting patches old now t g first newer new all of_group of_first of_newer of_new of_now is =
@@ -59,7 +59,7 @@ pub record CameUp (old new : Hardware) (t : ℕ) : Type 0 where
   pub remembered : new.remembered ≡ old.remembered
   pub others : (u : ℕ) → u ≢ t → new.thread u ≡ old.thread u
 
-pub came_up : (setting : Setting) (patches : Patches) (hardware : Hardware) (t : ℕ) → CameUp hardware (bring_up setting patches hardware t).after t
+pub came_up : (setting : Setting) (patches : CachedPatches) (hardware : Hardware) (t : ℕ) → CameUp hardware (bring_up setting patches hardware t).after t
 came_up setting patches hardware t =
     let keeps = brought_keeps (with_thread hardware t Up) t (setting.group t) (to_write setting patches hardware (setting.group t)) (hardware.refuses (setting.group t)) in
     record {
@@ -105,13 +105,13 @@ every_thread setting = every_from 0 setting.threads
 -- ---- the wanted threads, one after the other
 
 -- Of the wanted threads those below t came up, and the others are cold.
-pub record Rises (setting : Setting) (patches : Patches) (start : Hardware) (wanted : ℕ → Bool) (ups : List BringUp) (now : Hardware) (t : ℕ) : Type 0 where
+pub record Rises (setting : Setting) (patches : CachedPatches) (start : Hardware) (wanted : ℕ → Bool) (ups : List BringUp) (now : Hardware) (t : ℕ) : Type 0 where
   pub on : is_on now.power ≡ true
   pub remembered : now.remembered ≡ start.remembered
   pub cold : (u : ℕ) → t ≤ u → is_cold (now.thread u) ≡ true
   pub left : bring_up_each setting patches start (filter wanted (threads_of setting)) ≡ onto ups (bring_up_each setting patches now (from wanted t setting.threads))
 
-pub none_rose : (setting : Setting) (patches : Patches) (start : Hardware) (wanted : ℕ → Bool) → is_on start.power ≡ true → ((u : ℕ) → is_cold (start.thread u) ≡ true) → Rises setting patches start wanted [] start 0
+pub none_rose : (setting : Setting) (patches : CachedPatches) (start : Hardware) (wanted : ℕ → Bool) → is_on start.power ≡ true → ((u : ℕ) → is_cold (start.thread u) ≡ true) → Rises setting patches start wanted [] start 0
 none_rose setting patches start wanted on cold =
     let all : setting.threads ≡ setting.threads - 0 = omega arith in
     record {
@@ -121,7 +121,7 @@ none_rose setting patches start wanted on cold =
       left = ap (λ (n : ℕ). bring_up_each setting patches start (filter wanted (range_with_len 0 n))) all;
     }
 
-pub another_stays : (setting : Setting) (patches : Patches) (start : Hardware) (wanted : ℕ → Bool) (ups : List BringUp) (now : Hardware) (t : ℕ)
+pub another_stays : (setting : Setting) (patches : CachedPatches) (start : Hardware) (wanted : ℕ → Bool) (ups : List BringUp) (now : Hardware) (t : ℕ)
     → Rises setting patches start wanted ups now t → t < setting.threads → wanted t ≡ false → Rises setting patches start wanted ups now (t + 1)
 another_stays setting patches start wanted ups now t rises below not = record {
   on = rises.on;
@@ -130,7 +130,7 @@ another_stays setting patches start wanted ups now t rises below not = record {
   left = rises.left ∙ ap (λ (ts : List ℕ). onto ups (bring_up_each setting patches now ts)) (unwanted_next wanted t setting.threads below not);
 }
 
-pub another_rises : (setting : Setting) (patches : Patches) (start : Hardware) (wanted : ℕ → Bool) (ups : List BringUp) (now : Hardware) (t : ℕ) (came : Brought) (more : List BringUp)
+pub another_rises : (setting : Setting) (patches : CachedPatches) (start : Hardware) (wanted : ℕ → Bool) (ups : List BringUp) (now : Hardware) (t : ℕ) (came : Brought) (more : List BringUp)
     → Rises setting patches start wanted ups now t → t < setting.threads → wanted t ≡ true → came ≡ bring_up setting patches now t → more ≡ ups ++ came.up ∷ [] → Rises setting patches start wanted more came.after (t + 1)
 another_rises setting patches start wanted ups now t came more rises below is e pushed =
     let up = came_up setting patches now t in
@@ -148,7 +148,7 @@ another_rises setting patches start wanted ups now t came more rises below is e 
           ∙ ap (λ (us : List BringUp). onto us (bring_up_each setting patches came.after rest)) (sym pushed);
     }
 
-pub all_rose : (setting : Setting) (patches : Patches) (start : Hardware) (wanted : ℕ → Bool) (ups : List BringUp) (now : Hardware) (t : ℕ)
+pub all_rose : (setting : Setting) (patches : CachedPatches) (start : Hardware) (wanted : ℕ → Bool) (ups : List BringUp) (now : Hardware) (t : ℕ)
     → Rises setting patches start wanted ups now t → setting.threads ≤ t → record { ups = ups; after = now } ≡ bring_up_each setting patches start (filter wanted (threads_of setting))
 all_rose setting patches start wanted ups now t rises past =
     sym
@@ -164,7 +164,7 @@ woke old new e = (grind arith, grind arith)
 pub powered : (old new : Hardware) → power_on old ≡ Ok new → (new ≡ with_power old On) × (is_off old.power ≡ true) × (is_on old.power ≡ false)
 powered old new e = (grind arith, grind arith, grind arith)
 
-pub resumes : (setting : Setting) (patches : Patches) (old awake : Hardware) (all : AllBrought) → wake old ≡ Ok awake → all ≡ bring_up_each setting patches awake (filter awake.remembered (threads_of setting)) → resume setting patches old ≡ Ok all
+pub resumes : (setting : Setting) (patches : CachedPatches) (old awake : Hardware) (all : AllBrought) → wake old ≡ Ok awake → all ≡ bring_up_each setting patches awake (filter awake.remembered (threads_of setting)) → resume setting patches old ≡ Ok all
 resumes setting patches old awake all w e =
     ap (resume_from setting patches old) w ∙ ap Ok (ap (λ (remembered : ℕ → Bool). bring_up_each setting patches awake (filter remembered (threads_of setting))) (sym (ap (λ (h : Hardware). h.remembered) (woke old awake w).0)) ∙ sym e)
 

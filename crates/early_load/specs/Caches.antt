@@ -30,13 +30,13 @@ abbrev pub cached_patches : Patches → (ℕ → Option ℕ) → bring_ups.Patch
 cached_patches patches cached g = patch_at patches (cached g)
 
 -- the patch is there, and has its revision word
-abbrev pub IsHeld : Option (List ℕ) → Type 0
-IsHeld None = ⊥
-IsHeld (Some bytes) = 8 ≤ length bytes
+abbrev pub HoldsPatch : Option (List ℕ) → Type 0
+HoldsPatch None = ⊥
+HoldsPatch (Some bytes) = 8 ≤ length bytes
 
 -- the region holds the patch that each group caches
-abbrev pub AreHeld : ℕ → Patches → (ℕ → Option ℕ) → Type 0
-AreHeld groups patches cached = (g first : ℕ) → g < groups → cached g ≡ Some first → IsHeld (patches first)
+abbrev pub CachesHold : ℕ → Patches → (ℕ → Option ℕ) → Type 0
+CachesHold groups patches cached = (g first : ℕ) → g < groups → cached g ≡ Some first → HoldsPatch (patches first)
 
 -- the patches without the one at a block, unless a group caches it
 abbrev pub swept_at : ℕ → (ℕ → Option ℕ) → Patches → ℕ → Patches
@@ -44,5 +44,5 @@ swept_at groups cached patches block = if is_cached groups cached block then pat
 
 -- The region holds the patch that each group caches, and no other.
 pub record HoldsJustCached (groups : ℕ) (patches : Patches) (cached : ℕ → Option ℕ) : Type 0 where
-  pub each : AreHeld groups patches cached
+  pub each : CachesHold groups patches cached
   pub only : (block : ℕ) → patches block ≢ None → is_cached groups cached block ≡ true

@@ -19,7 +19,7 @@ pub struct PatchCache {
 }
 
 impl PatchCache {
-    ghost use Rattle.early_load.specs.Caches.{first_block, groups_of, cached_of, nothing_cached, place_at, swept_at, AreHeld, HoldsJustCached};
+    ghost use Rattle.early_load.specs.Caches.{first_block, groups_of, cached_of, nothing_cached, place_at, swept_at, CachesHold, HoldsJustCached};
 
     /// A cache of so many groups, of which none caches a patch.
     pub fn new(groups: u16) -> PatchCache
@@ -84,7 +84,7 @@ impl PatchCache {
     /// these. The blocks are gone through up to the last patch.
     pub fn sweep(&self, pool: &mut PatchPool)
         ensures swept { patches_of pool.new ≡ swept (groups_of self.now) (cached_of self.now) (patches_of pool.old) }
-        ensures just_cached { AreHeld (groups_of self.now) (patches_of pool.old) (cached_of self.now) → HoldsJustCached (groups_of self.now) (patches_of pool.new) (cached_of self.now) }
+        ensures just_cached { CachesHold (groups_of self.now) (patches_of pool.old) (cached_of self.now) → HoldsJustCached (groups_of self.now) (patches_of pool.new) (cached_of self.now) }
         ensures size { blocks_in pool.new ≡ blocks_in pool.old }
     {
         let mut left = pool.held();

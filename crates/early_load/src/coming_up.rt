@@ -7,7 +7,7 @@ ghost use Rattle.machine_steps.specs.BringUps.{above, revision, brought, bring_u
 ghost use Rattle.machine_steps.specs.Puts.{patch_at};
 ghost use Rattle.hw_machine.specs.Machine.{setting_of, hardware_of};
 ghost use Rattle.patch_pool.specs.Pool.{patches_of};
-ghost use Rattle.early_load.specs.Caches.{groups_of, cached_of, cached_patches, AreHeld, IsHeld};
+ghost use Rattle.early_load.specs.Caches.{groups_of, cached_of, cached_patches, CachesHold, HoldsPatch};
 ghost use Rattle.early_load.specs.Wanted.{wants, wanted_threads};
 
 use crate::cache::PatchCache;
@@ -25,7 +25,7 @@ pub fn bring_up(machine: &mut Machine, cache: &PatchCache, pool: &PatchPool, t: 
     requires thread { t < (setting_of machine.old).threads }
     requires may { may_come_up (hardware_of machine.old) t ≡ Ok (hardware_of machine.old) }
     requires groups { groups_of cache.now ≡ (setting_of machine.old).groups }
-    requires held { AreHeld (groups_of cache.now) (patches_of pool.now) (cached_of cache.now) }
+    requires held { CachesHold (groups_of cache.now) (patches_of pool.now) (cached_of cache.now) }
     ensures brought { record { up = result; after = hardware_of machine.new } ≡ bring_up (setting_of machine.old) (cached_patches (patches_of pool.now) (cached_of cache.now)) (hardware_of machine.old) t }
     ensures same_setting { setting_of machine.new ≡ setting_of machine.old }
 {
@@ -52,7 +52,7 @@ fn if_first(first: bool, newer: Option<u32>) -> Option<u32>
 /// The revision of a group's cached patch, where it is above this one.
 fn newer(rev: u32, cache: &PatchCache, pool: &PatchPool, group: u16) -> Option<u32>
     requires group { group < groups_of cache.now }
-    requires held { AreHeld (groups_of cache.now) (patches_of pool.now) (cached_of cache.now) }
+    requires held { CachesHold (groups_of cache.now) (patches_of pool.now) (cached_of cache.now) }
     ensures { result ≡ above rev (patch_at (patches_of pool.now) (cached_of cache.now group)) }
 {
     let id = cache.cached(group)?;
@@ -93,7 +93,7 @@ pub(crate) fn bring_up_wanted(
     requires power { is_on (hardware_of machine.old).power ≡ true }
     requires cold { (t : ℕ) → is_cold ((hardware_of machine.old).thread t) ≡ true }
     requires groups { groups_of cache.now ≡ (setting_of machine.old).groups }
-    requires held { AreHeld (groups_of cache.now) (patches_of pool.now) (cached_of cache.now) }
+    requires held { CachesHold (groups_of cache.now) (patches_of pool.now) (cached_of cache.now) }
     ensures brought { record { ups = result.items; after = hardware_of machine.new } ≡ bring_up_each (setting_of machine.old) (cached_patches (patches_of pool.now) (cached_of cache.now)) (hardware_of machine.old) (wanted_threads wanted (setting_of machine.old) (hardware_of machine.old)) }
     ensures same_setting { setting_of machine.new ≡ setting_of machine.old }
 {
@@ -115,7 +115,7 @@ pub fn resume(
     pool: &PatchPool,
 ) -> Result<ArrayVec<BringUp, 256>, HotAnswer>
     requires groups { groups_of cache.now ≡ (setting_of machine.old).groups }
-    requires held { AreHeld (groups_of cache.now) (patches_of pool.now) (cached_of cache.now) }
+    requires held { CachesHold (groups_of cache.now) (patches_of pool.now) (cached_of cache.now) }
     ensures answer { let row = resume (setting_of machine.old) (cached_patches (patches_of pool.now) (cached_of cache.now)) (hardware_of machine.old) in MatchResult result (λ ups. row ≡ Ok (record { ups = ups.items; after = hardware_of machine.new })) (λ answer. (row ≡ Err answer) × (hardware_of machine.new ≡ hardware_of machine.old)) }
     ensures same_setting { setting_of machine.new ≡ setting_of machine.old }
 {

@@ -4,7 +4,7 @@ ghost use Rattle.std.specs.Prelude.{◌≡◌, ℕ, ◌<◌, ◌≤◌, IsTrue, 
 ghost use Rattle.region_steps.specs.Region.{Stands};
 ghost use Rattle.patch_pool.specs.Pool.{patches_of, blocks_in};
 ghost use Rattle.patch_pool.specs.Steps.{IsPut};
-ghost use Rattle.early_load.specs.Caches.{place_at, IsHeld};
+ghost use Rattle.early_load.specs.Caches.{place_at, HoldsPatch};
 ghost use Rattle.early_load.specs.Puts.{offer_of, AreEntries, bytes_at, puts_of, ArePut, IsElsewhere, without};
 
 use crate::patches::free_at;
@@ -25,7 +25,7 @@ pub fn put_offers(
     requires known { AreEntries catalog.now offers.now }
     requires keeps { IsTrue catalog.now.keeps }
     ensures put { IfOk result (λ places. ArePut (puts_of (blocks_in pool.old) catalog.now offers.now (patches_of pool.old)) offers.now (patches_of pool.new) places.items) }
-    ensures held { IfOk result (λ places. (g first : ℕ) → place_at places.items g ≡ Some first → IsHeld (patches_of pool.new first)) }
+    ensures held { IfOk result (λ places. (g first : ℕ) → place_at places.items g ≡ Some first → HoldsPatch (patches_of pool.new first)) }
     ensures others { IfOk result (λ places. (block : ℕ) → IsElsewhere places.items block → patches_of pool.new block ≡ patches_of pool.old block) }
     ensures back { IfOk result (λ places. without places.items (patches_of pool.new) ≡ patches_of pool.old) }
     ensures full { IfErr result (λ full. (puts_of (blocks_in pool.old) catalog.now offers.now (patches_of pool.old) ≡ Err full.needed) × (patches_of pool.new ≡ patches_of pool.old)) }

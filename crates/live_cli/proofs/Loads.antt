@@ -9,7 +9,7 @@ use Rattle.rendezvous_steps.specs.declared.ends.End.{End}
 use Rattle.rendezvous_steps.specs.declared.ends.End.TheVariants as ends
 use Rattle.rendezvous_steps.specs.Plan.{Plan, Sound}
 use Rattle.rendezvous_model.specs.Outcome.{Outcome}
-use Rattle.rendezvous_model.specs.Verdict.{Verdict, LoadVerdict, is_halted, end_at}
+use Rattle.rendezvous_model.specs.Verdict.{Verdict, LoadVerdict, ended_halted, end_at}
 use Rattle.rendezvous_model.specs.Verdict as verdict
 use Rattle.rendezvous_rule.specs.Ran.{Unlisted}
 use Rattle.rendezvous_rule.specs.Runs.{RunOf}
@@ -33,7 +33,7 @@ no_run : {P : Type 0} (state : State) (reads : List Read) (answer : CommandAnswe
 no_run state reads answer did run is ran =
     absurd (none-some run (sym (ap (λ (d : Did). d.ran) is) ∙ ran))
 
-halted : (end : End) → is_halted end ≡ true → end ≡ ends.Halted
+halted : (end : End) → ended_halted end ≡ true → end ≡ ends.Halted
 halted ends.Halted is = refl
 halted ends.Absent is = absurd (false≢true is)
 halted ends.Withdrawn is = absurd (false≢true is)

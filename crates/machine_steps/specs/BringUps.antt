@@ -11,8 +11,8 @@ use Rattle.machine_steps.specs.Hardware.{Setting, Hardware, all_cold, threads_of
 use Rattle.machine_steps.specs.Calls.{wake}
 
 -- the bytes of the patch that each group caches
-abbrev pub Patches : Type 0
-Patches = ℕ → Option (List ℕ)
+abbrev pub CachedPatches : Type 0
+CachedPatches = ℕ → Option (List ℕ)
 
 -- the revision of a patch stands in its word at byte 4, for both vendors
 abbrev pub revision : List ℕ → ℕ
@@ -24,7 +24,7 @@ above rev None = None
 above rev (Some patch) = if nat_lt rev (revision patch) then Some (revision patch) else None
 
 -- what is to be written where a thread of the group comes up
-abbrev pub to_write : Setting → Patches → Hardware → ℕ → Option ℕ
+abbrev pub to_write : Setting → CachedPatches → Hardware → ℕ → Option ℕ
 to_write setting patches hardware g =
     if all_cold setting hardware g then above (hardware.rev g) (patches g) else None
 
@@ -42,7 +42,7 @@ brought hardware t g None refuses = record { up = shows t (hardware.rev g) No; a
 brought hardware t g (Some new) true = record { up = shows t (hardware.rev g) Refused; after = hardware }
 brought hardware t g (Some new) false = record { up = shows t new Wrote; after = with_rev hardware g new }
 
-abbrev pub bring_up : Setting → Patches → Hardware → ℕ → Brought
+abbrev pub bring_up : Setting → CachedPatches → Hardware → ℕ → Brought
 bring_up setting patches hardware t =
     brought (with_thread hardware t Up) t (setting.group t) (to_write setting patches hardware (setting.group t)) (hardware.refuses (setting.group t))
 
@@ -55,13 +55,13 @@ pub record AllBrought : Type 0 where
 abbrev pub and_then : Brought → AllBrought → AllBrought
 and_then first rest = record { ups = first.up ∷ rest.ups; after = rest.after }
 
-abbrev pub bring_up_each : Setting → Patches → Hardware → List ℕ → AllBrought
+abbrev pub bring_up_each : Setting → CachedPatches → Hardware → List ℕ → AllBrought
 bring_up_each setting patches hardware [] = record { ups = []; after = hardware }
 bring_up_each setting patches hardware (t ∷ ts) =
     let first = bring_up setting patches hardware t in and_then first (bring_up_each setting patches first.after ts)
 
 -- every thread comes up, as at a boot
-abbrev pub bring_up_all : Setting → Patches → Hardware → AllBrought
+abbrev pub bring_up_all : Setting → CachedPatches → Hardware → AllBrought
 bring_up_all setting patches hardware = bring_up_each setting patches hardware (threads_of setting)
 
 -- the threads that were up when the machine was suspended
@@ -69,9 +69,9 @@ abbrev pub remembered_threads : Setting → Hardware → List ℕ
 remembered_threads setting hardware = filter hardware.remembered (threads_of setting)
 
 -- the machine wakes, and the remembered threads come up
-abbrev pub resume_from : Setting → Patches → Hardware → Result Hardware HotAnswer → Result AllBrought HotAnswer
+abbrev pub resume_from : Setting → CachedPatches → Hardware → Result Hardware HotAnswer → Result AllBrought HotAnswer
 resume_from setting patches hardware (Ok awake) = Ok (bring_up_each setting patches awake (remembered_threads setting hardware))
 resume_from setting patches hardware (Err answer) = Err answer
 
-abbrev pub resume : Setting → Patches → Hardware → Result AllBrought HotAnswer
+abbrev pub resume : Setting → CachedPatches → Hardware → Result AllBrought HotAnswer
 resume setting patches hardware = resume_from setting patches hardware (wake hardware)

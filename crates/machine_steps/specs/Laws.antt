@@ -4,7 +4,7 @@ use Rattle.machine_steps.specs.declared.states.ThreadState.TheVariants.{Up}
 use Rattle.machine_steps.specs.declared.answers.HotAnswer.{HotAnswer}
 use Rattle.machine_steps.specs.Hardware.{Setting, Hardware, is_on, with_thread, with_refusal, with_rev}
 use Rattle.machine_steps.specs.Calls as calls
-use Rattle.machine_steps.specs.BringUps.{Patches, bring_up_each}
+use Rattle.machine_steps.specs.BringUps.{CachedPatches, bring_up_each}
 
 -- the calls that can change a machine, and what they are told
 pub data Call : Type 0 where
@@ -40,7 +40,7 @@ CallsNeverLower =
 
 abbrev pub BringUpsNeverLower : Type 0
 BringUpsNeverLower =
-    (setting : Setting) (patches : Patches) (hardware : Hardware) (threads : List ℕ) → NeverLower hardware (bring_up_each setting patches hardware threads).after
+    (setting : Setting) (patches : CachedPatches) (hardware : Hardware) (threads : List ℕ) → NeverLower hardware (bring_up_each setting patches hardware threads).after
 
 -- what a call answers goes by its row, and where it is refused nothing has changed
 abbrev pub RefusalsKeep : Type 0

@@ -23,15 +23,15 @@ write_after g in_write (what.Begin h) = if h == g then true else in_write
 write_after g in_write (what.Report h result) = if h == g then false else in_write
 write_after g in_write item = in_write
 
-abbrev pub is_in_write : ℕ → List Item → Bool
-is_in_write g items = fold (λ in_write item. write_after g in_write item.what) false items
+abbrev pub is_being_written : ℕ → List Item → Bool
+is_being_written g items = fold (λ in_write item. write_after g in_write item.what) false items
 
 -- An item that may come after these: at a begin each thread of the group that takes part is inside, and no thread runs
 -- ordinary code while its group is in its write.
 abbrev pub MayCome : Plan → List Item → ℕ → What → Type 0
 MayCome plan earlier t (what.Begin g) =
     (u : ℕ) → plan.group u ≡ g → plan.kind u ≢ Absent → has_entered u earlier ≡ true
-MayCome plan earlier t what.Ordinary = is_in_write (plan.group t) earlier ≡ false
+MayCome plan earlier t what.Ordinary = is_being_written (plan.group t) earlier ≡ false
 MayCome plan earlier t item = Unit {0}
 
 abbrev pub Excluded : Plan → List Item → Type 0

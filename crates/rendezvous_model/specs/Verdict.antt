@@ -17,17 +17,17 @@ pub data Verdict : Type 0 where
   Failed : ℕ → Verdict
   Incomplete : ℕ → Verdict
 
-abbrev pub is_halted : End → Bool
-is_halted ends.Halted = true
-is_halted end = false
+abbrev pub ended_halted : End → Bool
+ended_halted ends.Halted = true
+ended_halted end = false
 
-abbrev pub is_unfinished : End → Bool
-is_unfinished ends.Unfinished = true
-is_unfinished end = false
+abbrev pub ended_unfinished : End → Bool
+ended_unfinished ends.Unfinished = true
+ended_unfinished end = false
 
-abbrev pub is_withdrawn : End → Bool
-is_withdrawn ends.Withdrawn = true
-is_withdrawn end = false
+abbrev pub ended_withdrawn : End → Bool
+ended_withdrawn ends.Withdrawn = true
+ended_withdrawn end = false
 
 abbrev pub left_updated : End → Bool
 left_updated (ends.Left results.Updated) = true
@@ -44,10 +44,10 @@ end_at outcome t = get_or outcome.ends t ends.Absent
 -- The tests of an end, by the thread's number.
 
 abbrev pub halted_at : Outcome → ℕ → Bool
-halted_at outcome t = is_halted (end_at outcome t)
+halted_at outcome t = ended_halted (end_at outcome t)
 
 abbrev pub unfinished_at : Outcome → ℕ → Bool
-unfinished_at outcome t = is_unfinished (end_at outcome t)
+unfinished_at outcome t = ended_unfinished (end_at outcome t)
 
 -- a primary that left with Error: its group refused
 abbrev pub refused_at : Plan → Outcome → ℕ → Bool
@@ -55,7 +55,7 @@ refused_at plan outcome t = is_primary plan t && left_with_error (end_at outcome
 
 -- how many kicks were taken back, and whether a thread left with Updated
 abbrev pub withdrawn_count : Outcome → ℕ
-withdrawn_count outcome = count_by is_withdrawn outcome.ends
+withdrawn_count outcome = count_by ended_withdrawn outcome.ends
 
 abbrev pub some_updated : Outcome → Bool
 some_updated outcome = list_any left_updated outcome.ends

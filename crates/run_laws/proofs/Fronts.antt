@@ -14,9 +14,9 @@ use Rattle.rendezvous_steps.specs.Plan.{Plan}
 use Rattle.rendezvous_steps.specs.Events.{put}
 use Rattle.rendezvous_model.specs.Round.{State, Cause, Place, Out, In, Left, Halted, Withdrawn, Absent, GroupPlace, Waiting, Writing, Written, Reported, is_held, is_halted, opening_place, opening_state}
 use Rattle.rendezvous_model.specs.RoundStep.{RoundBy, thread_of, cause_of}
-use Rattle.rendezvous_model.specs.Safe.{is_in_write as writes}
+use Rattle.rendezvous_model.specs.Safe.{is_being_written as writes}
 use Rattle.rendezvous_model.specs.Run.{Run, Answered}
-use Rattle.rendezvous_model.specs.Excluded.{has_entered, inside_after, is_in_write, write_after}
+use Rattle.rendezvous_model.specs.Excluded.{has_entered, inside_after, is_being_written, write_after}
 use Rattle.run_laws.proofs.Tables.{put_same, put_other, same_or_not}
 use Rattle.run_laws.proofs.Model.{change, changed}
 
@@ -122,7 +122,7 @@ absent_after plan t cause s item s' by u absent = absent
 -- What items tell of the state that they lead to.
 pub record Front (plan : Plan) (items : List Item) (s : State) : Type 0 where
   pub inside : (u : ℕ) → has_entered u items ≡ within (s.place u)
-  pub in_write : (g : ℕ) → is_in_write g items ≡ writes (s.group g)
+  pub in_write : (g : ℕ) → is_being_written g items ≡ writes (s.group g)
   pub absent : (u : ℕ) → plan.kind u ≡ KindAbsent → s.place u ≡ Absent
   pub first_revision : (g : ℕ) → has_written (s.group g) ≡ false → s.revision g ≡ plan.rev0 g
 
@@ -161,7 +161,7 @@ front_step plan items k event item s s' e front answered =
           ∙ sym (within_after plan t cause s item.what s' answered.step u))));
       in_write = λ g.
           fold_more (λ in_write i. write_after g in_write i.what) false items k item room
-          ∙ (ap (λ (i : Item). write_after g (is_in_write g (take k items)) i.what) here
+          ∙ (ap (λ (i : Item). write_after g (is_being_written g (take k items)) i.what) here
           ∙ (ap (λ b. write_after g b item.what) (front.in_write g)
           ∙ sym (writes_after plan t cause s item.what s' answered.step g)));
       absent = λ u kind. absent_after plan t cause s item.what s' answered.step u (front.absent u kind);

@@ -17,7 +17,7 @@ use Rattle.machine_steps.specs.declared.states.Power.TheVariants.{On}
 use Rattle.machine_steps.specs.Hardware.{Hardware, Setting as MachineSetting, is_on, is_asleep, is_up, with_power, with_thread, threads_of}
 use Rattle.machine_steps.specs.declared.states.ThreadState.TheVariants.{Offline}
 use Rattle.machine_steps.specs.Calls as calls
-use Rattle.machine_steps.specs.BringUps.{AllBrought, Patches, remembered_threads, resume_from}
+use Rattle.machine_steps.specs.BringUps.{AllBrought, CachedPatches, remembered_threads, resume_from}
 use Rattle.machine_steps.specs.Puts.{Puts}
 use Rattle.machine_steps.specs.Laws as machine
 use Rattle.script_text.specs.declared.command.Command.TheVariants as command
@@ -91,7 +91,7 @@ bring_ups_grow : (state : State) (g : ℕ) (row : Result AllBrought HotAnswer) �
 bring_ups_grow state g (Ok brought) good = good g
 bring_ups_grow state g (Err answer) good = le_refl _
 
-resumed_good : machine.BringUpsNeverLower → (setting : MachineSetting) (patches : Patches) (old : Hardware) (row : Result Hardware HotAnswer) → Good old row → GoodForAll old (resume_from setting patches old row)
+resumed_good : machine.BringUpsNeverLower → (setting : MachineSetting) (patches : CachedPatches) (old : Hardware) (row : Result Hardware HotAnswer) → Good old row → GoodForAll old (resume_from setting patches old row)
 resumed_good law setting patches old (Err answer) good = tt
 resumed_good law setting patches old (Ok awake) good = λ g. le_trans (good g) (law setting patches awake (remembered_threads setting old) g)
 

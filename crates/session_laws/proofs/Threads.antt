@@ -8,7 +8,7 @@ use Rattle.machine_steps.specs.declared.states.Power.TheVariants as power
 use Rattle.machine_steps.specs.declared.states.ThreadState.{ThreadState}
 use Rattle.machine_steps.specs.declared.states.ThreadState.TheVariants.{Cold, Up, Offline}
 use Rattle.machine_steps.specs.Hardware.{Setting, Hardware, is_off, is_on, is_asleep, is_up, put, threads_of, with_power, with_thread, suspended, switched_off}
-use Rattle.machine_steps.specs.BringUps.{Patches, brought, bring_up, bring_up_each, bring_up_all, remembered_threads, to_write}
+use Rattle.machine_steps.specs.BringUps.{CachedPatches, brought, bring_up, bring_up_each, bring_up_all, remembered_threads, to_write}
 use Rattle.session_laws.specs.Standing.{ThreadsStand}
 
 -- what stands of the threads of a machine
@@ -47,7 +47,7 @@ brought_keeps hardware t g None refuses = record { power = refl; thread = refl; 
 brought_keeps hardware t g (Some new) true = record { power = refl; thread = refl; remembered = refl }
 brought_keeps hardware t g (Some new) false = record { power = refl; thread = refl; remembered = refl }
 
-came_up : (setting : Setting) (patches : Patches) (hardware : Hardware) (t : ℕ) →
+came_up : (setting : Setting) (patches : CachedPatches) (hardware : Hardware) (t : ℕ) →
     Keeps (with_thread hardware t Up) (bring_up setting patches hardware t).after
 came_up setting patches hardware t =
     brought_keeps (with_thread hardware t Up) t (setting.group t)
@@ -67,7 +67,7 @@ up_with thread t u up = elim (cases_eq u t) [
   | inr other ↦ put_far thread t u Up other ∙ up
 ]
 
-pub brings : (setting : Setting) (patches : Patches) (hardware : Hardware) (threads : ℕ) (ts : List ℕ) →
+pub brings : (setting : Setting) (patches : CachedPatches) (hardware : Hardware) (threads : ℕ) (ts : List ℕ) →
     All (λ t. t < threads) ts → Brings hardware (bring_up_each setting patches hardware ts).after threads
 brings setting patches hardware threads [] below =
     record { power = refl; remembered = refl; up = λ u up. up; past = λ u past. refl }
@@ -85,7 +85,7 @@ brings setting patches hardware threads (t ∷ ts) below =
     }
 
 -- the first of them is up then
-first_is_up : (setting : Setting) (patches : Patches) (hardware : Hardware) (threads t : ℕ) (ts all : List ℕ) →
+first_is_up : (setting : Setting) (patches : CachedPatches) (hardware : Hardware) (threads t : ℕ) (ts all : List ℕ) →
     all ≡ t ∷ ts → All (λ t. t < threads) all → (bring_up_each setting patches hardware all).after.thread t ≡ Up
 first_is_up setting patches hardware threads t ts all is below =
     let came = came_up setting patches hardware t in
@@ -117,7 +117,7 @@ kept_begins test zero some passes = absurd (omega (arith, some))
 kept_begins test (suc n) some passes = (filter test (range_with_len 1 n), rw passes refl)
 
 -- where the power was switched on and threads come up, 0 the first of them
-woken_stand : (setting : Setting) (patches : Patches) (old : Hardware) (ts all : List ℕ) → Stand setting old →
+woken_stand : (setting : Setting) (patches : CachedPatches) (old : Hardware) (ts all : List ℕ) → Stand setting old →
     is_on old.power ≡ false → all ≡ 0 ∷ ts → All (λ t. t < setting.threads) all
     → Stand setting (bring_up_each setting patches (with_power old power.On) all).after
 woken_stand setting patches old ts all stands off begins below =
@@ -130,13 +130,13 @@ woken_stand setting patches old ts all stands off begins below =
       past = λ t past. all_come.past t past ∙ stands.past t past;
     }
 
-pub all_stand : (setting : Setting) (patches : Patches) (old : Hardware) → 0 < setting.threads → Stand setting old →
+pub all_stand : (setting : Setting) (patches : CachedPatches) (old : Hardware) → 0 < setting.threads → Stand setting old →
     is_on old.power ≡ false → Stand setting (bring_up_all setting patches (with_power old power.On)).after
 all_stand setting patches old some stands off =
     let begins = row_begins setting.threads some in
     woken_stand setting patches old begins.0 (threads_of setting) stands off begins.1 (are_below setting.threads)
 
-pub remembered_stand : (setting : Setting) (patches : Patches) (old : Hardware) → 0 < setting.threads →
+pub remembered_stand : (setting : Setting) (patches : CachedPatches) (old : Hardware) → 0 < setting.threads →
     Stand setting old → is_asleep old.power ≡ true
     → Stand setting (bring_up_each setting patches (with_power old power.On) (remembered_threads setting old)).after
 remembered_stand setting patches old some stands asleep =
@@ -146,7 +146,7 @@ remembered_stand setting patches old some stands asleep =
     (All-filter old.remembered (λ t. t < setting.threads) (threads_of setting) (are_below setting.threads))
 
 -- power stays on after a bring-up, and so nothing is to be shown of a machine that is off
-pub power_stays : (setting : Setting) (patches : Patches) (old : Hardware) (ts : List ℕ) →
+pub power_stays : (setting : Setting) (patches : CachedPatches) (old : Hardware) (ts : List ℕ) →
     (bring_up_each setting patches old ts).after.power ≡ old.power
 power_stays setting patches old [] = refl
 power_stays setting patches old (t ∷ ts) = power_stays setting patches (bring_up setting patches old t).after ts
@@ -154,7 +154,7 @@ power_stays setting patches old (t ∷ ts) = power_stays setting patches (bring_
 
 -- ---- the other calls
 
-pub one_more_stands : (setting : Setting) (patches : Patches) (old : Hardware) (t : ℕ) → t < setting.threads →
+pub one_more_stands : (setting : Setting) (patches : CachedPatches) (old : Hardware) (t : ℕ) → t < setting.threads →
     is_on old.power ≡ true → Stand setting old → Stand setting (bring_up_each setting patches old (t ∷ [])).after
 one_more_stands setting patches old t below on stands =
     let came = brings setting patches old setting.threads (t ∷ [])

@@ -6,7 +6,7 @@ use Rattle.region_steps.specs.Region.{Patches}
 use Rattle.patch_pool.specs.declared.pool.PatchId.{PatchId}
 use Rattle.machine_steps.specs.Hardware.{Hardware}
 use Rattle.machine_steps.specs.Puts.{Puts, first_of}
-use Rattle.early_load.specs.Caches.{place_at, IsHeld}
+use Rattle.early_load.specs.Caches.{place_at, HoldsPatch}
 use Rattle.early_load.specs.Puts.{without}
 use Rattle.rendezvous_steps.specs.Plan.{Plan}
 use Rattle.session_steps.specs.State.{Setting, State}
@@ -24,7 +24,7 @@ pub record ArePlaces (puts : Puts) (offers : List (Option ℕ)) (places : List (
 
 -- the region holds the patches at these places, with their revision words
 abbrev pub PlacesHeld : Patches → List (Option PatchId) → Type 0
-PlacesHeld patches places = (g first : ℕ) → place_at places g ≡ Some first → IsHeld (patches first)
+PlacesHeld patches places = (g first : ℕ) → place_at places g ≡ Some first → HoldsPatch (patches first)
 
 abbrev pub with_patches : State → Patches → State
 with_patches state patches = record state { patches = patches }

@@ -7,7 +7,7 @@ ghost use Rattle.file_entries.specs.Entry.{Entry};
 ghost use Rattle.file_reads.specs.Reads.{Read};
 ghost use Rattle.machine_steps.specs.BringUps.{revision};
 ghost use Rattle.machine_steps.specs.Puts.{patch_at};
-ghost use Rattle.early_load.specs.Caches.{first_block, IsHeld};
+ghost use Rattle.early_load.specs.Caches.{first_block, HoldsPatch};
 ghost use Rattle.ctl_words.specs.Plans.{plan_of, TablesFit, IsSound};
 ghost use Rattle.session_steps.specs.State.{State};
 ghost use Rattle.session_steps.specs.Offers.{kind_of, AreLoadOffers, SomethingOffered, plan_of as load_plan};
@@ -91,7 +91,7 @@ impl Parts {
 
     /// The revision of the patch at a place, as the region lends it.
     fn revision_at(&self, place: Option<PatchId>) -> Option<u32>
-        requires { (first : ℕ) → first_block place ≡ Some first → IsHeld ((state_of self.now).patches first) }
+        requires { (first : ℕ) → first_block place ≡ Some first → HoldsPatch ((state_of self.now).patches first) }
         ensures { result ≡ option_map revision (patch_at (state_of self.now).patches (first_block place)) }
     {
         let id = place?;
