@@ -13,6 +13,9 @@ SCRIPT = os.path.abspath(__file__)
 RUNS = 15
 MIB = 2**20
 HEADER = struct.Struct("<12I")
+UPDATE_ROW, PATCH_ROW = 36, 20  # what a catalogue keeps of an update and of a patch, in bytes
+TABLE_ROW = 8 + 12 + 8  # and of a row of an AMD table of a signature of its own: as it came, and in the table's index
+FEW = "the rows' size and at most 2 MiB"
 
 
 def make_file(name, count, total):
@@ -84,6 +87,8 @@ def hostile(ucode):
             ratios = " and ".join(f"{work_ratio(more, less, 5):.1f}" for less, more in zip(commands, commands[1:]))
             table.append((f"`{words[0]}`, {text}: work for 10^5 rows to 10^4, and for 10^6 to 10^5", ratios,
                           "about 12 each"))
+            table.append((f"`{words[0]}`, {text}: peak memory for 10^6 rows",
+                          peak_above_rows(commands[-1], 10**6 * TABLE_ROW + patches * PATCH_ROW), FEW))
     return table
 
 
@@ -111,21 +116,27 @@ def expect(command, printed, wanted):
 
 
 def run(command):
-    """Runs a command to its end, and returns its time and its processor time in seconds, and its peak resident memory in
-    bytes. The last counts from this script's own, since a child begins as its parent."""
+    """Runs a command to its end, and returns its time and its processor time in seconds."""
     with open(os.devnull, "wb") as nowhere:
         begin = time.perf_counter()
         _, status, usage = os.wait4(start(command, nowhere.fileno()), 0)
         taken = time.perf_counter() - begin
     if status != 0:
         sys.exit(f"{' '.join(command)}\nended with status {os.waitstatus_to_exitcode(status)}, so nothing is measured.")
-    return taken, usage.ru_utime + usage.ru_stime, usage.ru_maxrss * 1024
+    return taken, usage.ru_utime + usage.ru_stime
 
 
 def peak_above(command, size):
-    """Returns by how many MiB the peak memory of a command passes a size. A run of this script that holds nothing looks."""
-    looks = subprocess.run([sys.executable, SCRIPT, "peak", *command], stdout=subprocess.PIPE, check=True)
+    """Returns by how many MiB the peak resident memory of a command passes a size."""
+    looks = subprocess.run([compiled("peak"), *command], stdout=subprocess.PIPE)
+    if looks.returncode != 0:
+        sys.exit(f"{' '.join(command)}\ndid not end with status 0, so nothing is measured.")
     return (int(looks.stdout) - size) / MIB
+
+
+def peak_above_rows(command, size):
+    """Returns the same as a row's measured text, where the size is that of all rows that the catalogue has to keep."""
+    return f"the rows' {size / MIB:.1f} MiB and {peak_above(command, size):.1f} MiB"
 
 
 def time_ratio(command, to, runs=RUNS):
@@ -158,7 +169,7 @@ def measure(ucode):
     expect(reader, b"".join(writes_of(reader)), b"0x00000000\n")
     expect(summed, b"".join(writes_of(summed)), b"0x00000000\n")
     to_reader, to_summed = time_ratio(large, reader), time_ratio(large, summed)
-    above = peak_above(large, os.path.getsize("large.bin"))
+    large_peak = peak_above_rows(large, 4096 * UPDATE_ROW)
 
     text = make_file("whole.bin", 65536, 64)
     writes = writes_of(whole)
@@ -181,34 +192,29 @@ def measure(ucode):
     alike, one = ([ucode, "select", name, "whole.bin"] for name in ("alike256", "alike1"))
     expect(one, b"".join(writes_of(one)), selection(1, 65536))
     sixteen, eight = ([ucode, "list"] + ["whole.bin"] * n for n in (16, 8))
-    of_files = os.path.getsize("whole.bin")
+    of_rows = 65536 * UPDATE_ROW
 
     return [
         ("64 MiB in 4,096 updates: time, to the plain reader's", f"{to_reader:.2f}", "at most 1.3"),
         ("64 MiB in 4,096 updates: time, to the reader in pieces", f"{to_summed:.2f}", "at most 1.2"),
-        ("64 MiB in 4,096 updates: peak memory", f"the file's size and {above:.1f} MiB",
-         "the file's size and at most 32 MiB"),
+        ("64 MiB in 4,096 updates: peak memory", large_peak, FEW),
         ("4 MiB in 65,536 updates: writes, to blocks of 64 KiB", f"{len(writes):,} to {-(-len(text) // 65536):,}",
          "one for each"),
         ("4 MiB in 65,536 updates: time, to the reader in pieces that lists", f"{to_listed:.2f}", "at most 1.5"),
         ("4 MiB in 65,536 updates: time, to that of 32,768", f"{to_half:.2f}", "about 2"),
         ("16 such files: time, to that of 8", f"{time_ratio(sixteen, eight, 5):.2f}", "about 2"),
-        ("16 such files: peak memory", f"the files' size and {peak_above(sixteen, 16 * of_files):.1f} MiB",
-         "the files' size and at most 32 MiB"),
+        ("4 MiB in 65,536 updates: peak memory", peak_above_rows(whole, of_rows), FEW),
+        ("16 such files: peak memory", peak_above_rows(sixteen, 16 * of_rows), FEW),
         ("`select` for 256 cores from 65,536 updates: time, to that for 128", f"{time_ratio(select, half_cores, 5):.2f}",
          "about 2"),
         ("`select` for 256 cores from 65,536 updates: time, to that from 32,768",
          f"{time_ratio(select, half_entries, 5):.2f}", "about 2"),
         ("`select` for 256 cores that are alike: time, to that for one core", f"{time_ratio(alike, one, 5):.2f}", "about 1"),
-        ("`select` for 256 cores from 65,536 updates: peak memory",
-         f"the file's size and {peak_above(select, of_files):.1f} MiB", "the file's size and at most 32 MiB"),
+        ("`select` for 256 cores from 65,536 updates: peak memory", peak_above_rows(select, of_rows), FEW),
     ]
 
 
 def main():
-    if sys.argv[1:2] == ["peak"]:
-        print(run(sys.argv[2:])[2])
-        return
     if len(sys.argv) != 2 or not os.access(sys.argv[1], os.X_OK):
         sys.exit("usage: run.py PATH, the path of the built ucode")
     ucode = os.path.abspath(sys.argv[1])
