@@ -1,5 +1,5 @@
 -- Words that are a byte and one to three digits.
-use Rattle.std.proofs.Common.{◌≡◌, ℕ, ◌+◌, ◌-◌, ◌*◌, ◌<◌, ◌≤◌, ◌^◌, Bool, true, false, ◌&&◌, List, [], ◌∷◌, ◌++◌, length, take, drop, filter, get_or, Some, None, refl, sym, ap, ◌∙◌, subst, inl, inr, arith, nat_eq, nat_lt, not, codes, cond, append-nil}
+use Rattle.std.proofs.Common.{◌≡◌, ℕ, ◌+◌, ◌-◌, ◌*◌, ◌<◌, ◌≤◌, ◌^◌, Bool, true, false, ◌&&◌, List, [], ◌∷◌, ◌++◌, length, take, drop, filter, get_or, Some, None, refl, sym, ap, ◌∙◌, subst, arith, nat_eq, nat_lt, not, codes, cond, append-nil}
 use Rattle.std.specs.Char.{digit_value, is_digit}
 use Rattle.std.specs.List.{All, onto_first, slice_split, starts_with}
 use Rattle.std.specs.Prelude.{◌==◌}

@@ -1,5 +1,5 @@
 -- The schedules of loads, read word by word.
-use Rattle.std.specs.Prelude.{◌≡◌, ℕ, ◌<◌, ◌-◌, ◌^◌, Bool, true, false, not, List, [], ◌∷◌, ◌++◌, drop, length, map, min, nat_lt, slice_index, Option, Some, None, is_some, unwrap_or, Result, Ok, Err, if◌then◌else◌, IfOk}
+use Rattle.std.specs.Prelude.{◌≡◌, ℕ, ◌<◌, ◌≤◌, ◌-◌, ◌^◌, Bool, true, false, not, List, [], ◌∷◌, ◌++◌, drop, length, map, min, nat_lt, slice_index, Option, Some, None, is_some, unwrap_or, Result, Ok, Err, if◌then◌else◌, IfOk}
 use Rattle.std.specs.Borrow.{Bor}
 use Rattle.std.specs.List.{list_all}
 use Rattle.rendezvous_steps.specs.declared.ends.Beat.{Beat}
@@ -12,7 +12,7 @@ use Rattle.script_text.specs.declared.forms.Form.TheVariants.{End}
 use Rattle.script_text.specs.Forms.{is_beat, kind_of, has_form}
 use Rattle.script_text.specs.Stands.{beat_with_some, beats_of}
 use Rattle.script_text.specs.Checks.{spells}
-use Rattle.script_text.specs.Within.{fits_beat, events_of}
+use Rattle.script_text.specs.Within.{fits_beat, events_of, events_of_beat}
 use Rattle.uc_script.specs.declared.answer.LineAnswer.{LineAnswer}
 use Rattle.uc_script.specs.declared.answer.LineAnswer.TheVariants.{Cause, NoMemory}
 use Rattle.uc_script.specs.declared.answer.ScriptAnswer.{ScriptAnswer}
@@ -73,6 +73,16 @@ pub record IsFirstBeat (limits : Limits) (text : List ℕ) (beat : Beat) (rest :
   pub read : IsBeatRead limits (mark ∷ digits) (Ok beat)
   pub after : after_line text ≡ left_text rest is_last
   pub first : slice_index (first_line text) 0 ≡ mark
+
+-- the same, and the beat is one event
+abbrev pub IsFirstEvent : Limits → List ℕ → Beat → List ℕ → Bool → Type 0
+IsFirstEvent limits text event rest is_last = IsFirstBeat limits text event rest is_last × (events_of_beat limits event ≡ 1)
+
+-- the words at the front of a text's first line are put, and the others are left; all that lines have after it is left too
+pub record AddsEvents (limits : Limits) (text : List ℕ) (old : List Beat) (rest : List ℕ) (new : List Beat) : Type 0 where
+  pub leaves : LeavesSchedule limits (words_of (first_line text)) old (words_of (first_line rest)) new
+  pub after : after_line text ≡ after_line rest
+  pub fewer : length (words_of (first_line rest)) ≤ length (words_of (first_line text))
 
 -- the first line of a text is none that is skipped, and does not end a load
 pub record IsLineOfBeats (text : List ℕ) : Type 0 where

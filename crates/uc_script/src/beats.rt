@@ -1,14 +1,15 @@
 //! The schedules of loads.
-ghost use Rattle.std.specs.Prelude.{◌≡◌, drop, slice_index, IfOk, IfSome, MatchOption};
+ghost use Rattle.std.specs.Prelude.{◌≡◌, drop, slice_index, IfOk, IfSome, MatchOption, MatchResult};
 ghost use Rattle.uc_text.specs.Lines.{words_of};
 ghost use Rattle.script_text.specs.Forms.{is_beat};
 ghost use Rattle.script_text.specs.Within.{fits_beat, events_of_beat};
 ghost use Rattle.uc_script.specs.FirstLine.{left_words, left_text};
-ghost use Rattle.uc_script.specs.Schedules.{IsBeatOf, IsNextBeat, IsScheduled, Counted, IsFirstBeat, AddsLine};
+ghost use Rattle.uc_script.specs.declared.answer.LineAnswer.TheVariants.{NoMemory as LineNoMemory};
+ghost use Rattle.uc_script.specs.Schedules.{IsBeatOf, IsNextBeat, IsScheduled, Counted, IsFirstBeat, IsFirstEvent, AddsEvents, AddsLine};
 
 use crate::answer::LineAnswer;
 use crate::rest::split_line;
-use crate::shorts::first_short;
+use crate::shorts::{first_of_two_bytes, first_short};
 use rendezvous_steps::Beat;
 use script_text::{BeatKind, Beats, Limits, ScriptCause};
 use uc_bytes::NoMemory;
@@ -77,8 +78,9 @@ fn add_words<'a>(
 {
     let (mut rest, mut is_done) = (text, is_done);
     while !is_done {
-        let Some(first) = first_beat(limits, rest) else {
-            let (line, rest) = split_line(rest);
+        let left = add_events(limits, rest, beats, events)?;
+        let Some(first) = first_beat(limits, left) else {
+            let (line, rest) = split_line(left);
             add_beats(limits, line, beats, events)?;
             return Ok(rest);
         };
@@ -91,6 +93,68 @@ fn add_words<'a>(
         return Err(LineAnswer::Cause(ScriptCause::TooMany));
     }
     Ok(rest)
+}
+
+/// Puts the beats of the words at the front of a text behind those of their load, as long as each is an event of two bytes
+/// and a space stands behind it, and returns what follows them. Most words of a long line are so, and each beat is one event.
+#[inline(always)]
+fn add_events<'a>(
+    limits: Limits,
+    text: &'a [u8],
+    beats: &mut Beats,
+    events: &mut u64,
+) -> Result<&'a [u8], LineAnswer>
+    requires { Counted limits beats.old events.old }
+    ensures { MatchResult result (λ rest. AddsEvents limits text.now beats.old rest.now beats.new × Counted limits beats.new events.new) (λ answer. answer ≡ LineNoMemory) }
+{
+    let before = beats.as_slice().len();
+    let mut rest = text;
+    while let Some(first) = first_event(limits, rest, false) {
+        beats.push(first.event)?;
+        rest = first.rest;
+    }
+    *events = events.saturating_add((beats.as_slice().len() - before) as u64);
+    Ok(rest)
+}
+
+/// An event that the first word of a text states, and what follows the word and the byte behind it.
+#[derive(Clone, Copy, Debug)]
+struct FirstEvent<'a> {
+    event: Beat,
+    rest: &'a [u8],
+}
+
+/// The event of the first word of a text, where it has two bytes, and a space stands behind it, or an LF where the line is to
+/// end.
+#[inline(always)]
+fn first_event(limits: Limits, text: &[u8], is_last: bool) -> Option<FirstEvent<'_>>
+    ensures { IfSome result (λ first. IsFirstEvent limits text.now first.event first.rest.now is_last) }
+{
+    let word = first_of_two_bytes(text, is_last)?;
+    let event = event_of(limits, word.mark, word.number)?;
+    Some(FirstEvent {
+        event,
+        rest: word.rest,
+    })
+}
+
+/// The event of a mark, where it is one of an event, and of a thread, where it is there.
+#[inline(always)]
+fn event_of(limits: Limits, mark: u8, thread: u16) -> Option<Beat>
+    ensures { IfSome result (λ event. IsBeatOf limits mark (Some thread) (Ok event) × (events_of_beat limits event ≡ 1)) }
+{
+    let event = match mark {
+        b's' => Beat::Step(thread),
+        b't' => Beat::Timeout(thread),
+        b'n' => Beat::Nmi(thread),
+        b'r' => Beat::Run(thread),
+        _ => return None,
+    };
+    if thread < limits.threads {
+        Some(event)
+    } else {
+        None
+    }
 }
 
 /// Puts the beats of a line behind those of its load, whose events are counted.

@@ -63,6 +63,37 @@ pub fn first_short(text: &[u8]) -> Option<Short<'_>>
     })
 }
 
+/// The first word of a text, where it has two bytes, begins the text, and a space stands behind it, or an LF where the line
+/// is to end. No other shape is looked at, so that this stays small where it is laid into a loop.
+#[inline(always)]
+pub fn first_of_two_bytes(text: &[u8], is_last: bool) -> Option<Short<'_>>
+    ensures { IfSome result (λ word. (is_mark word.mark ≡ true → IsFirstShort text.now word.mark word.number word.rest.now word.is_last) × (word.is_last ≡ is_last)) }
+{
+    let [mark, digit, after, rest @ ..] = text else {
+        return None;
+    };
+    if *digit < b'0' || *digit > b'9' {
+        return None;
+    }
+    if *after != end_of(is_last) {
+        return None;
+    }
+    Some(Short {
+        mark: *mark,
+        number: u16::from(*digit - b'0'),
+        rest,
+        is_last,
+    })
+}
+
+/// The byte behind a word with which the line goes on, or ends.
+#[inline(always)]
+fn end_of(is_last: bool) -> u8
+    ensures { EndsWord result is_last }
+{
+    if is_last { b'\n' } else { b' ' }
+}
+
 /// Whether a byte behind a word ends the line too, where it ends the word.
 #[inline(always)]
 fn ends_word(byte: u8) -> Option<bool>

@@ -1,4 +1,4 @@
-use Rattle.std.proofs.Common.{refl, arith, subst}
+use Rattle.std.proofs.Common.{refl, arith}
 use Rattle.uc_script.proofs.ShortWords.{short_one, short_two, short_three}
 use Rattle.uc_script.proofs.shorts.first_short.Goals as goal
 
