@@ -1,11 +1,10 @@
 -- Patches as they lie in memory, and what a copy and a length of 0 leave of them.
-use Rattle.std.proofs.Common.{◌≡◌, ◌≢◌, ℕ, zero, suc, ◌+◌, ◌-◌, ◌*◌, ◌/◌, ◌<◌, ◌≤◌, Bool, true, not, nat_eq, cond, List, [], ◌∷◌, ◌++◌, length, take, drop, count_by, Some, None, is_some, refl, sym, ap, ◌∙◌, subst, inl, inr, arith, length-take, length-drop}
+use Rattle.std.proofs.Common.{◌≡◌, ◌≢◌, ℕ, zero, suc, ◌+◌, ◌-◌, ◌*◌, ◌/◌, ◌<◌, ◌≤◌, Bool, true, false, not, nat_eq, cond, List, [], ◌∷◌, ◌++◌, length, take, drop, count_by, Some, None, is_some, refl, sym, ap, ◌∙◌, subst, inl, inr, arith, length-take, length-drop}
 use Rattle.std.specs.List.{range_with_len, slice_index, slice_set}
 use Rattle.std.proofs.lemmas.Bool.{false≢true, cases_eq, cases_lt, eq-eqb, ne_eqb}
-use Rattle.std.proofs.lemmas.List.{drop-drop, get_or_past, get_or-set_same, get_or-set_other}
-use Rattle.std.proofs.Math.ListN.{length-set}
+use Rattle.std.proofs.lemmas.List.{take_all, drop-drop, get_or_past, get_or-set_same, get_or-set_other}
 use Rattle.std.proofs.lemmas.List.Sums.{sum_by-cons, sum_by-set}
-use Rattle.std.proofs.Math.Seq.{take-append_seam, drop-append-add}
+use Rattle.std.proofs.Math.Seq.{take-length, take-append_seam, drop-append-add}
 use Rattle.region_steps.specs.Region.{no_patches, begins_at, blocks_of, width, is_free_run, put_at, take_out, held}
 use Rattle.region_steps.proofs.Covered.{apart_from_run, begins_no_patch}
 use Rattle.region_steps.proofs.Changed.{put_here, put_other, out_here, out_other}
@@ -90,7 +89,7 @@ begins_by_length bytes lengths first =
 -- how long a patch is, and how many blocks it takes
 pub length_is : (bytes lengths : List ℕ) (first : ℕ) → EndInside bytes lengths → IsPatch bytes lengths first → length (take (slice_index lengths first) (drop (1024 * first) bytes)) ≡ slice_index lengths first
 length_is bytes lengths first inside is =
-    omega (arith, inside first is.there, length-take (slice_index lengths first) (drop (1024 * first) bytes), length-drop (1024 * first) bytes)
+    omega (arith, inside first is.some, length-take (slice_index lengths first) (drop (1024 * first) bytes), length-drop (1024 * first) bytes)
 
 pub width_is : (bytes lengths : List ℕ) (first : ℕ) → EndInside bytes lengths → IsPatch bytes lengths first → width (patches_in bytes lengths first) ≡ (slice_index lengths first + 1023) / 1024
 width_is bytes lengths first inside is = ap width is.is ∙ ap (λ (n : ℕ). (n + 1023) / 1024) (length_is bytes lengths first inside is)
@@ -114,6 +113,33 @@ out_at bytes lengths first block lt =
 
 pub patches_out : (bytes lengths : List ℕ) (first : ℕ) → first < length lengths → patches_in bytes (slice_set lengths first 0) ≡ take_out (patches_in bytes lengths) first
 patches_out bytes lengths first lt = λ i block. out_at bytes lengths first block lt i
+
+-- ---- more memory
+
+-- what ends inside reads the same where bytes follow
+with_more : (bytes more : List ℕ) (from n : ℕ) → from + n ≤ length bytes → take n (drop from (bytes ++ more)) ≡ take n (drop from bytes)
+with_more bytes more from n inside =
+    ap (λ (bs : List ℕ). take n (drop from (bs ++ more))) (sym (take-length bytes)) ∙ before_copy bytes more (length bytes) from n (omega arith) inside
+
+more_at : (bytes more lengths : List ℕ) (first : ℕ) → EndInside bytes lengths → patches_in (bytes ++ more) lengths first ≡ patches_in bytes lengths first
+more_at bytes more lengths first inside =
+    elim (cases_lt 0 (slice_index lengths first)) [
+      | inl some ↦
+          let is = has_length bytes lengths first some in
+          (has_length (bytes ++ more) lengths first some).is ∙ ap (λ (bs : List ℕ). Some bs) (with_more bytes more (1024 * first) (slice_index lengths first) (inside first is.some)) ∙ sym is.is
+      | inr none ↦
+          let none' : slice_index lengths first ≡ 0 = omega (arith, none) in
+          has_none (bytes ++ more) lengths first none' ∙ sym (has_none bytes lengths first none')
+    ]
+
+patches_more : (bytes more lengths : List ℕ) → EndInside bytes lengths → patches_in (bytes ++ more) lengths ≡ patches_in bytes lengths
+patches_more bytes more lengths inside = λ i first. more_at bytes more lengths first inside i
+
+-- bytes that were made longer with others, or left as they were
+pub patches_resized : (bytes more lengths now : List ℕ) (end : ℕ) (is_longer : Bool) → now ≡ cond is_longer (take end bytes ++ more) bytes → length bytes ≤ end → EndInside bytes lengths → patches_in now lengths ≡ patches_in bytes lengths
+patches_resized bytes more lengths now end true is le inside =
+    ap (λ (bs : List ℕ). patches_in bs lengths) (is ∙ ap (λ (bs : List ℕ). bs ++ more) (take_all end bytes le)) ∙ patches_more bytes more lengths inside
+patches_resized bytes more lengths now end false is le inside = ap (λ (bs : List ℕ). patches_in bs lengths) is
 
 -- what a put is done with
 pub record CanPut (bytes lengths : List ℕ) (first : ℕ) (new : List ℕ) : Type 0 where
@@ -208,8 +234,10 @@ one_less lengths first lt some =
 
 -- lengths that end inside memory, after one was set
 pub inside_set : (bytes written lengths : List ℕ) (first len : ℕ) → EndInside bytes lengths → length written ≡ length bytes → 1024 * first + len ≤ length bytes → first < length lengths → EndInside written (slice_set lengths first len)
-inside_set bytes written lengths first len inside same fits there block lt =
+inside_set bytes written lengths first len inside same fits there block some =
     elim (cases_eq block first) [
       | inl e ↦ subst (λ (b : ℕ). 1024 * b + slice_index (slice_set lengths first len) b ≤ length written) (sym e) (omega (arith, get_or-set_same lengths first len 0 there, fits, same))
-      | inr other ↦ omega (arith, get_or-set_other lengths first block len 0 other, inside block (omega (arith, lt, length-set lengths first len)), same)
+      | inr other ↦
+          let is : slice_index (slice_set lengths first len) block ≡ slice_index lengths block = get_or-set_other lengths first block len 0 other in
+          omega (arith, is, inside block (omega (arith, some, is)), same)
     ]

@@ -16,7 +16,8 @@ patches_in bytes lengths first = patch_of (slice_index lengths first) (drop (102
 
 -- each ends inside the memory
 abbrev pub EndInside : List ℕ → List ℕ → Type 0
-EndInside bytes lengths = (first : ℕ) → first < length lengths → 1024 * first + slice_index lengths first ≤ length bytes
+EndInside bytes lengths =
+    (first : ℕ) → 0 < slice_index lengths first → 1024 * first + slice_index lengths first ≤ length bytes
 
 -- bytes with others copied over them, from an index on
 abbrev pub copied_over : List ℕ → ℕ → List ℕ → List ℕ

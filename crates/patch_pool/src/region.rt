@@ -1,5 +1,5 @@
 //! The memory of a region, with the length of the patch that begins at each block.
-ghost use Rattle.std.specs.Prelude.{◌≡◌, ◌<◌, ◌≤◌, ◌+◌, ◌*◌, ◌/◌, ℕ, true, Some, length, take, drop, replicate, slice_index, count_by, vec_len, IfOk};
+ghost use Rattle.std.specs.Prelude.{◌≡◌, ◌<◌, ◌≤◌, ◌+◌, ◌*◌, ◌/◌, ℕ, true, Some, length, take, drop, replicate, slice_index, count_by, vec_len, vec_capacity, IfOk};
 ghost use Rattle.region_steps.specs.Region.{no_patches, begins_at, blocks_of, width, is_free_run, put_at, take_out, held};
 ghost use Rattle.patch_pool.specs.Bytes.{begins, patches_in, copied_over, EndInside};
 
@@ -37,15 +37,16 @@ fn copy_over(bytes: &mut [u8], at: usize, new: &[u8])
     bytes[at..at + new.len()].copy_from_slice(new);
 }
 
-/// The bytes of all blocks; for each block the length in bytes of the patch that begins there, 0 where none does; and
-/// how many patches there are.
+/// The bytes of the blocks, up to the end of the highest patch that was ever put: memory above it is not touched. For
+/// each block the length in bytes of the patch that begins there, 0 where none does; and how many patches there are.
 #[derive(Debug, Drop)]
 pub struct Region {
     pub bytes: Vec<u8>,
     pub lengths: Vec<u32>,
     held: u32,
     ghost few: { vec_len lengths ≤ 65536 },
-    ghost whole: { vec_len bytes ≡ 1024 * vec_len lengths },
+    ghost short: { vec_len bytes ≤ 1024 * vec_len lengths },
+    ghost room: { 1024 * vec_len lengths ≤ vec_capacity bytes },
     ghost inside: { EndInside bytes.items lengths.items },
     ghost counted: { held ≡ count_by begins lengths.items },
 }
@@ -57,7 +58,7 @@ impl Region {
         ensures empty { IfOk result (λ region. patches_in region.bytes.items region.lengths.items ≡ no_patches) }
         ensures size { IfOk result (λ region. vec_len region.lengths ≡ blocks) }
     {
-        let bytes = vec![in alloc; 0u8; blocks as usize * 1024]?;
+        let bytes = Vec::with_capacity(alloc, blocks as usize * 1024)?;
         let lengths = no_lengths(alloc, blocks as usize)?;
         Ok(Region {
             bytes,
@@ -83,6 +84,19 @@ impl Region {
         part(&self.bytes, first as usize * 1024, len)
     }
 
+    /// Makes the bytes go up to an end, where they do not: those that are new are 0.
+    fn reach(&mut self, end: usize)
+        requires { end ≤ 1024 * vec_len self.old.lengths }
+        ensures reached { end ≤ vec_len self.new.bytes }
+        ensures same { patches_in self.new.bytes.items self.new.lengths.items
+            ≡ patches_in self.old.bytes.items self.old.lengths.items }
+        ensures size { vec_len self.new.lengths ≡ vec_len self.old.lengths }
+    {
+        if self.bytes.len() < end {
+            self.bytes.resize(end, 0).unwrap();
+        }
+    }
+
     /// Copies a patch to free blocks, from the first on.
     pub fn put(&mut self, first: u32, bytes: &[u8])
         requires some { 0 < length bytes.now }
@@ -94,6 +108,7 @@ impl Region {
         ensures size { vec_len self.new.lengths ≡ vec_len self.old.lengths }
     {
         let at = first as usize * 1024;
+        self.reach(at + bytes.len());
         copy_over(&mut self.bytes, at, bytes);
         self.lengths[first as usize] = bytes.len() as u32;
         self.held += 1;

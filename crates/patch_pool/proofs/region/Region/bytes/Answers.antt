@@ -14,7 +14,7 @@ part-requires c =
     let lengths = c.args.self.now.lengths.items in
     let is = is_patch c.args.self.now.bytes.items lengths c.args.first c.requires in
     let len : c.index.result.now ≡ slice_index lengths c.args.first = get_or_read lengths c.args.first c.index.result.now is.there c.index.ensures 0 in
-    omega (arith, len, c.args.self.now.inside c.args.first is.there, ap length c.deref.ensures.value)
+    omega (arith, len, c.args.self.now.inside c.args.first is.some, ap length c.deref.ensures.value)
 
 pub returns : goal.returns
 returns c =

@@ -19,7 +19,7 @@ blocks_for-blocks-requires c =
     let lengths = c.args.self.now.lengths.items in
     let is = is_patch c.args.self.now.bytes.items lengths c.args.first c.requires in
     let len : c.index.result.now ≡ slice_index lengths c.args.first = get_or_read lengths c.args.first c.index.result.now is.there c.index.ensures 0 in
-    omega (arith, len, c.args.self.now.inside c.args.first is.there, c.args.self.now.few, c.args.self.now.whole, c.args.self.now.bytes.ok.0)
+    omega (arith, len, c.args.self.now.inside c.args.first is.some, c.args.self.now.few, c.args.self.now.short, c.args.self.now.bytes.ok.0)
 
 pub returns-clause-blocks : goal.returns-clause-blocks
 returns-clause-blocks c =
@@ -44,7 +44,7 @@ invariant_of-self-clause-inside c =
     let bytes = c.args.self.now.bytes.items in
     let lengths = c.args.self.now.lengths.items in
     let is = is_patch bytes lengths c.args.first c.requires in
-    inside_set bytes bytes lengths c.args.first 0 c.args.self.now.inside refl (omega (arith, c.args.self.now.inside c.args.first is.there)) is.there
+    inside_set bytes bytes lengths c.args.first 0 c.args.self.now.inside refl (omega (arith, c.args.self.now.inside c.args.first is.some)) is.there
 
 pub invariant_of-self-clause-counted : goal.invariant_of-self-clause-counted
 invariant_of-self-clause-counted c =
