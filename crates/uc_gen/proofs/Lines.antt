@@ -1,12 +1,13 @@
 -- How a text ends after more of it.
-use Rattle.std.proofs.Common.{◌≡◌, ℕ, zero, suc, inl, inr, Some, None, get_or, subst, ◌+◌, ◌-◌, ◌<◌, not, false, List, [], ◌∷◌, ◌++◌, length, take, drop, refl, sym, ◌∙◌, ap, arith, append_assoc, length-append}
+use Rattle.std.proofs.Common.{◌≡◌, ℕ, zero, suc, inl, inr, Option, Some, None, get_or, subst, ◌+◌, ◌-◌, ◌<◌, not, false, List, [], ◌∷◌, ◌++◌, length, take, drop, refl, sym, ◌∙◌, ap, arith, append_assoc, length-append}
 use Rattle.std.specs.Prelude.{All, count_by, if◌then◌else◌}
 use Rattle.std.specs.List.{suffix_len, after_last, position, position_or_len}
-use Rattle.std.proofs.lemmas.Bool.{cases_lt, lt-ltb, eqb-true}
+use Rattle.std.proofs.lemmas.Bool.{cases_lt, lt-ltb, le-ltb, eqb-true, false_from_ne_true}
 use Rattle.std.proofs.lemmas.Option.{none-some}
 use Rattle.std.proofs.lemmas.List.Quantifiers.{position-Some}
 use Rattle.std.proofs.lemmas.List.{append-nil, reverse-append, take-append-le, drop-append-le, take_more, get_or-take, length-take}
-use Rattle.std.proofs.lemmas.List.Sums.{suffix_len-le-length, sum_by-append, fails_before_first}
+use Rattle.std.proofs.lemmas.List.Sums.{suffix_len-le-length, sum_by-append, fails_before_first, position_or_len_is}
+use Rattle.memchr.specs.Find.{IsFirstByte, is_byte}
 use Rattle.uc_text.specs.Lines.{is_line_feed}
 use Rattle.uc_gen.specs.Tally.{last_line, unfinished}
 
@@ -17,6 +18,15 @@ get_or_default : (xs : List ℕ) (i d e : ℕ) → i < length xs → get_or xs i
 get_or_default [] i d e below = absurd (omega (arith, below))
 get_or_default (x ∷ xs) zero d e below = refl
 get_or_default (x ∷ xs) (suc i) d e below = get_or_default xs i d e (omega (arith, below))
+
+-- what a search for an LF finds
+pub first_line_feed_is : (bytes : List ℕ) (found : Option ℕ) → IsFirstByte (is_byte 10) bytes found → found ≡ position is_line_feed bytes
+first_line_feed_is bytes None nowhere =
+    let place : position_or_len is_line_feed bytes ≡ length bytes = position_or_len_is (is_byte 10) bytes (length bytes) 0 (omega arith) (λ k lt. false_from_ne_true _ (nowhere k (omega arith) lt)) (λ lt. absurd (omega arith)) in
+    rw (le-ltb (position_or_len is_line_feed bytes) (length bytes) (omega (arith, place))) refl
+first_line_feed_is bytes (Some k) is =
+    let place : position_or_len is_line_feed bytes ≡ k = position_or_len_is (is_byte 10) bytes k 0 (omega (arith, is.0.high)) (λ j lt. false_from_ne_true _ (is.0.before j (omega arith) lt)) (λ lt. is.1) in
+    sym (found_inside bytes (omega (arith, place, is.0.high)) ∙ ap (λ (n : ℕ). Some n) place)
 
 -- how many bytes stand behind the last LF
 abbrev tail_len : List ℕ → ℕ

@@ -3,7 +3,7 @@ ghost use Rattle.std.specs.Prelude.{◌≡◌, ◌++◌, IfOk, OnOk};
 ghost use Rattle.std.specs.List.{flat_map};
 ghost use Rattle.uc_gen.specs.Bundle.{bytes_of};
 
-use uc_bytes::{NoMemory, put_word};
+use uc_bytes::NoMemory;
 
 /// Puts pieces behind the bytes, one after another.
 pub fn push_pieces(bytes: &mut Vec<u8>, pieces: &[&[u8]]) -> Result<(), NoMemory>
@@ -20,9 +20,7 @@ pub fn push_words(bytes: &mut Vec<u8>, words: &[u32]) -> Result<(), NoMemory>
     ensures { OnOk result (bytes.new.items ≡ bytes.old.items ++ bytes_of words.now) }
 {
     'words: for word in words {
-        let at = bytes.len();
-        bytes.extend_from_slice(&[0; 4])?;
-        put_word(bytes, at, *word);
+        bytes.extend_from_slice(&word.to_le_bytes())?;
     }
     Ok(())
 }

@@ -6,7 +6,7 @@ ghost use Rattle.uc_text.specs.Lines.{is_line_feed};
 ghost use Rattle.uc_gen.specs.Tally.{Tallies, lines_of, last_of, rest_of};
 
 use arrayvec::ArrayVec;
-use std::mem;
+use memchr::memchr;
 use uc_io::{Sink, SinkFailed};
 
 /// How much of a line is kept, in bytes.
@@ -25,7 +25,17 @@ pub struct TallySink {
 fn first_line_feed(bytes: &[u8]) -> Option<usize>
     ensures { result ≡ position is_line_feed bytes.now }
 {
-    bytes.iter().position(|byte| *byte == b'\n')
+    memchr(b'\n', bytes)
+}
+
+/// Moves a line to the place of another, by its bytes alone, and leaves none.
+fn take_over(last: &mut ArrayVec<u8, 128>, line: &mut ArrayVec<u8, 128>)
+    ensures last { last.new.items ≡ line.old.items }
+    ensures none { line.new.items ≡ [] }
+{
+    last.clear();
+    last.try_extend_from_slice(line.as_slice()).unwrap();
+    line.clear();
 }
 
 impl TallySink {
@@ -68,8 +78,7 @@ impl TallySink {
         ensures { (text : List ℕ) → Tallies self.old text → Tallies self.new (text ++ 10 ∷ []) }
     {
         self.lines = self.lines.saturating_add(1);
-        mem::swap(&mut self.last, &mut self.rest);
-        self.rest.clear();
+        take_over(&mut self.last, &mut self.rest);
     }
 }
 
