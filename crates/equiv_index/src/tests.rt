@@ -1,13 +1,16 @@
 use super::*;
 use std::test::Fail;
 
-/// Five rows, two of which have one signature and three of which have one id.
-const ROWS: [(u32, u16); 5] = [
+/// Seven rows: twice two are of one signature, four have one id, and the first of 0x00100f23 has the id 0, which means
+/// none.
+const ROWS: [(u32, u16); 7] = [
     (0x0050_0f10, 0x5000),
     (0x0010_0f21, 0x1020),
     (0x0050_0f10, 0x1020),
     (0x0010_0f20, 0x1020),
     (0, 0),
+    (0x0010_0f23, 0),
+    (0x0010_0f23, 0x1020),
 ];
 
 #[test]
@@ -17,6 +20,7 @@ fn the_first_row_of_a_signature_counts(rt: HostRuntime) -> Result<(), Fail> {
         (0x0050_0f10, 0x5000),
         (0x0010_0f20, 0x1020),
         (0x0010_0f22, 0),
+        (0x0010_0f23, 0),
         (0, 0),
     ];
     for (sig, id) in &ids {

@@ -21,12 +21,12 @@ const UPDATE: [u32; 16] = [
     0,
 ];
 
-/// The words of a container: its head, five rows, two of which a row before shadows, and two patches of 64 bytes, of
-/// which one has no id.
-const CONTAINER: [u32; 59] = [
+/// The words of a container: its head, seven rows, three of which a row before shadows, and two patches of 64 bytes. One
+/// row and one patch have the id 0, which is none: the row is for no patch, and the patch for no signature.
+const CONTAINER: [u32; 67] = [
     0x0041_4d44,
     0,
-    80,
+    112,
     0x0050_0f10,
     1,
     2,
@@ -47,42 +47,50 @@ const CONTAINER: [u32; 59] = [
     9,
     10,
     0x5010,
+    0x0050_0f13,
+    11,
+    12,
+    0x7777_0000,
+    0x0050_0f13,
+    13,
+    14,
+    0x5010,
     1,
     64,
     0x0101_2010,
     0x0500_0029,
-    11,
-    12,
+    15,
+    16,
     0,
     0,
     0x7777_5010,
-    13,
-    14,
-    15,
-    16,
     17,
     18,
     19,
     20,
     21,
-    1,
-    64,
     22,
-    0x0500_0030,
     23,
     24,
-    0,
-    0,
-    0,
     25,
+    1,
+    64,
     26,
+    0x0500_0030,
     27,
     28,
+    0,
+    0,
+    0,
     29,
     30,
     31,
     32,
     33,
+    34,
+    35,
+    36,
+    37,
 ];
 
 /// A catalogue that keeps the files' bytes, or one that keeps facts alone.
@@ -118,7 +126,7 @@ const UPDATE_FACTS: EntryFacts = EntryFacts {
 
 const PATCH_FACTS: EntryFacts = EntryFacts {
     file: 1,
-    start: 100,
+    start: 132,
     len: 64,
     vendor: Vendor::Amd,
     rev: 0x0500_0029,
@@ -133,7 +141,7 @@ const PATCH_FACTS: EntryFacts = EntryFacts {
 #[test]
 fn each_fact_has_its_word(rt: HostRuntime) -> Result<(), Fail> {
     let of_no_id = EntryFacts {
-        start: 172,
+        start: 204,
         rev: 0x0500_0030,
         id: 0,
         family: 0x0f,
@@ -164,11 +172,12 @@ fn first_served(catalog: &Catalog, i: u32) -> Option<[Option<u32>; 3]> {
 }
 
 /// Signatures, and the ids that the table gives for them: that of the first row.
-const IDS: [(u32, u16); 4] = [
+const IDS: [(u32, u16); 5] = [
     (0x0050_0f10, 0x5010),
     (0x0050_0f11, 0x5011),
     (0x0050_0f12, 0x5010),
     (0x0050_0f13, 0),
+    (0x0050_0f14, 0),
 ];
 
 #[test]

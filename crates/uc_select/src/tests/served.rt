@@ -2,7 +2,8 @@
 //! families 0Fh and 13h are offered nothing.
 use super::*;
 
-/// Signatures and ids of two rows, the id of a patch, the signature of a core, and whether it is offered the patch.
+/// Signatures and ids of two rows, the id of a patch, the signature of a core, and whether it is offered the patch. The id
+/// 0 stands for family 0Fh, which is never offered: whether it is an id at all shows only in what `uc_catalog` tells.
 const SERVED: [([(u32, u32); 2], u32, u32, bool); 18] = [
     ([(0x0010_0f22, 0x1022), (0, 0)], 0x1022, 0x0010_0f22, true),
     ([(0x0020_0f22, 0x2022), (0, 0)], 0x2022, 0x0020_0f22, true),
