@@ -2,6 +2,7 @@ use super::*;
 use std::alloc::{AllocError, Global};
 use std::test::Fail;
 use uc_bytes::FileCause;
+use update_samples::bytes_of;
 
 /// A container's head, and a table of three rows, two of them of one signature, with four bytes after the last.
 const TABLE: [u32; 16] = [
@@ -22,14 +23,6 @@ const TABLE: [u32; 16] = [
     0x0000_a213,
     7,
 ];
-
-fn bytes_of(alloc: Global, words: &[u32]) -> Result<Vec<u8>, AllocError> {
-    let mut bytes = Vec::new(alloc);
-    for word in words {
-        bytes.extend_from_slice(&word.to_le_bytes())?;
-    }
-    Ok(bytes)
-}
 
 /// The fault of the table with one word changed.
 fn fault_with(alloc: Global, at: usize, word: u32) -> Result<Option<EquivFault>, AllocError> {

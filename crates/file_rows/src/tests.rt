@@ -1,79 +1,8 @@
 use super::*;
-use std::alloc::{AllocError, Global};
+use std::alloc::Global;
 use std::test::Fail;
 use uc_bytes::{FileAnswer, FileCause, FileFault};
-
-/// An update of 108 bytes whose table has the pairs (0x906eb, 2) and (0x906ec, 0x22), as words.
-const UPDATE: [u32; 27] = [
-    1,
-    0xf0,
-    0x0711_2023,
-    0x0009_06ea,
-    0xf8e5_d783,
-    1,
-    2,
-    16,
-    108,
-    0,
-    0,
-    0,
-    0,
-    0,
-    0,
-    0,
-    2,
-    0x0e22_4320,
-    0,
-    0,
-    0,
-    0x0009_06eb,
-    2,
-    0xf8e5_d782,
-    0x0009_06ec,
-    0x22,
-    0xf8e5_d761,
-];
-
-/// A container of 116 bytes with a table of one row and a zero row, and a patch of 64 bytes with id 0xa210, as words.
-const CONTAINER: [u32; 29] = [
-    0x0041_4d44,
-    0,
-    32,
-    0x00a2_0f10,
-    0,
-    0,
-    0xa210,
-    0,
-    0,
-    0,
-    0,
-    1,
-    64,
-    0,
-    0x0a20_102b,
-    0,
-    0,
-    0,
-    0,
-    0xa210,
-    0,
-    0,
-    0,
-    0,
-    0,
-    0,
-    0,
-    0,
-    0,
-];
-
-fn bytes_of(alloc: Global, words: &[u32]) -> Result<Vec<u8>, AllocError> {
-    let mut bytes = Vec::new(alloc);
-    for word in words {
-        bytes.extend_from_slice(&word.to_le_bytes())?;
-    }
-    Ok(bytes)
-}
+use update_samples::{CONTAINER, WITH_TABLE, bytes_of};
 
 /// Feeds a piece where the file stays within its limit, as all files here do.
 fn feed_within(reader: &mut FileReader, piece: &[u8]) -> Result<(), FileAnswer> {
@@ -106,7 +35,7 @@ fn read_in(alloc: Global, pieces: &[&[u8]]) -> Result<(usize, Option<(u32, u32)>
 #[test]
 fn it_does_not_matter_how_a_file_is_cut(rt: HostRuntime) -> Result<(), Fail> {
     let alloc = rt.alloc();
-    let update = bytes_of(alloc, &UPDATE)?;
+    let update = bytes_of(alloc, &WITH_TABLE)?;
     let container = bytes_of(alloc, &CONTAINER)?;
     let files = [
         (update.as_slice(), (1, Some((0, 108)))),
@@ -134,7 +63,7 @@ fn answers_to(alloc: Global, front: &[u8], rest: &[u8]) -> (bool, bool, Option<F
 #[test]
 fn a_fault_is_told_with_the_piece_that_settles_it(rt: HostRuntime) -> Result<(), Fail> {
     let alloc = rt.alloc();
-    let mut words = UPDATE;
+    let mut words = WITH_TABLE;
     words[17] = 0x0e22_431f;
     words[26] = 0xf8e5_d762;
     let update = bytes_of(alloc, &words)?;

@@ -2,6 +2,7 @@ use super::*;
 use std::alloc::{AllocError, Global};
 use std::test::Fail;
 use uc_bytes::FileCause;
+use update_samples::bytes_of;
 
 /// The words of a sound header, no two alike but the two that have to be 1.
 const SOUND: [u32; 12] = [
@@ -18,14 +19,6 @@ const SOUND: [u32; 12] = [
     0x15,
     0x2c,
 ];
-
-fn bytes_of(alloc: Global, words: &[u32; 12]) -> Result<Vec<u8>, AllocError> {
-    let mut bytes = Vec::new(alloc);
-    for word in words {
-        bytes.extend_from_slice(&word.to_le_bytes())?;
-    }
-    Ok(bytes)
-}
 
 /// The sound header with these sizes of data and of the whole, version and loader revision.
 fn header_with(alloc: Global, changed: &[u32; 4]) -> Result<Vec<u8>, AllocError> {

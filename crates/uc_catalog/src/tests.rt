@@ -1,58 +1,14 @@
 use super::*;
-use std::alloc::{AllocError, Global};
 use std::test::Fail;
 use uc_bytes::{FileAnswer, FileCause, FileFault, Vendor};
+use update_samples::{
+    SMALL, SmallUpdate, WITH_TABLE, bytes_of, push_update, push_words, two_containers,
+};
 
 mod facts;
 
-/// An update of 64 bytes for signature 0x906ea and flags 2, of 2023-07-11, with data of zeros.
-fn push_update(bytes: &mut Vec<u8>, rev: u32, cksum: u32, total: u32) -> Result<(), AllocError> {
-    let words = [
-        1,
-        rev,
-        0x0711_2023,
-        0x0009_06ea,
-        cksum,
-        1,
-        2,
-        16,
-        total,
-        0,
-        0,
-        0,
-        0,
-        0,
-        0,
-        0,
-    ];
-    for word in &words {
-        bytes.extend_from_slice(&word.to_le_bytes())?;
-    }
-    Ok(())
-}
-
-/// An update whose table has the pairs (0x906eb, 2) and (0x906ec, 0x22).
-fn with_table(alloc: Global) -> Result<Vec<u8>, AllocError> {
-    let mut bytes = Vec::new(alloc);
-    push_update(&mut bytes, 0xf0, 0xf8e5_d783, 108)?;
-    let words = [
-        2,
-        0x0e22_4320u32,
-        0,
-        0,
-        0,
-        0x0009_06eb,
-        2,
-        0xf8e5_d782,
-        0x0009_06ec,
-        0x22,
-        0xf8e5_d761,
-    ];
-    for word in &words {
-        bytes.extend_from_slice(&word.to_le_bytes())?;
-    }
-    Ok(bytes)
-}
+/// The revision 0xf4.
+const LATER: SmallUpdate = SmallUpdate { rev: 0xf4, ..SMALL };
 
 /// Adds a file; every file here is short enough, and there are few.
 fn add(catalog: &mut Catalog, bytes: Vec<u8>) -> Result<(), FileAnswer> {
@@ -83,7 +39,7 @@ fn entry(catalog: &Catalog, i: u32) -> Option<EntryFacts> {
 fn tells_the_pairs_of_a_table_behind_the_headers(rt: HostRuntime) -> Result<(), Fail> {
     let mut catalog = Catalog::new(rt.alloc());
     assert_eq!(rt; catalog.len(), 0);
-    let bytes = with_table(rt.alloc())?;
+    let bytes = bytes_of(rt.alloc(), &WITH_TABLE)?;
     assert_eq!(rt; add(&mut catalog, bytes), Ok(()));
     let pairs = [(0x0009_06ea, 2), (0x0009_06eb, 2), (0x0009_06ec, 0x22)];
     assert_eq!(rt; three_pairs(&catalog, 0), Some(pairs));
@@ -109,11 +65,13 @@ fn a_refused_file_leaves_the_catalogue_as_it_was(rt: HostRuntime) -> Result<(), 
     let alloc = rt.alloc();
     let mut catalog = Catalog::new(alloc);
     let mut first = Vec::new(alloc);
-    push_update(&mut first, 0xf0, 0xf8e5_d7af, 64)?;
+    push_update(&mut first, &SMALL)?;
     assert_eq!(rt; add(&mut catalog, first), Ok(()));
     let mut second = Vec::new(alloc);
-    push_update(&mut second, 0xf0, 0xf8e5_d7af, 64)?;
-    push_update(&mut second, 0xf4, 0xf8e5_d7aa, 64)?;
+    push_update(&mut second, &SMALL)?;
+    push_update(&mut second, &LATER)?;
+    second.truncate(124);
+    push_words(&mut second, &[0xffff_ffff])?;
     let sum = FileFault {
         offset: 64,
         cause: FileCause::Sum,
@@ -121,7 +79,7 @@ fn a_refused_file_leaves_the_catalogue_as_it_was(rt: HostRuntime) -> Result<(), 
     assert_eq!(rt; add(&mut catalog, second), Err(FileAnswer::Fault(sum)));
     assert_eq!(rt; (catalog.files(), catalog.len()), (1, 1));
     let mut third = Vec::new(alloc);
-    push_update(&mut third, 0xf4, 0xf8e5_d7ab, 64)?;
+    push_update(&mut third, &LATER)?;
     let copy = Vec::from_slice(alloc, third.as_slice())?;
     assert_eq!(rt; add(&mut catalog, third), Ok(()));
     assert_eq!(rt; (catalog.files(), catalog.len()), (2, 2));
@@ -141,9 +99,9 @@ fn a_catalogue_of_facts_keeps_no_bytes_and_tells_the_same(rt: HostRuntime) -> Re
     let mut catalog = Catalog::of_facts(alloc);
     assert!(rt; !catalog.keeps_bytes());
     let mut first = Vec::new(alloc);
-    push_update(&mut first, 0xf0, 0xf8e5_d7af, 64)?;
+    push_update(&mut first, &SMALL)?;
     assert_eq!(rt; add(&mut catalog, first), Ok(()));
-    assert_eq!(rt; add(&mut catalog, with_table(alloc)?), Ok(()));
+    assert_eq!(rt; add(&mut catalog, bytes_of(alloc, &WITH_TABLE)?), Ok(()));
     assert_eq!(rt; (catalog.files(), catalog.len()), (2, 2));
     let pairs = [(0x0009_06ea, 2), (0x0009_06eb, 2), (0x0009_06ec, 0x22)];
     assert_eq!(rt; three_pairs(&catalog, 1), Some(pairs));
@@ -171,7 +129,7 @@ fn add_in_two(catalog: &mut Catalog, front: &[u8], rest: &[u8]) -> Result<(), Fi
 #[test]
 fn a_file_in_pieces_is_added_as_a_whole_one(rt: HostRuntime) -> Result<(), Fail> {
     let alloc = rt.alloc();
-    let file = with_table(alloc)?;
+    let file = bytes_of(alloc, &WITH_TABLE)?;
     let bytes = file.as_slice();
     let pairs = [(0x0009_06ea, 2), (0x0009_06eb, 2), (0x0009_06ec, 0x22)];
     for cut in 0..=bytes.len() {
@@ -212,45 +170,6 @@ fn an_empty_file_has_a_vendor_and_no_entry(rt: HostRuntime) -> Result<(), Fail> 
     Ok(())
 }
 
-/// A container of 116 bytes: a table of one row and a zero row, and a patch of 64 bytes with id 0xa210.
-fn push_container(bytes: &mut Vec<u8>, sig: u32, rev: u32) -> Result<(), AllocError> {
-    let words = [
-        0x0041_4d44u32,
-        0,
-        32,
-        sig,
-        0,
-        0,
-        0xa210,
-        0,
-        0,
-        0,
-        0,
-        1,
-        64,
-        0,
-        rev,
-        0,
-        0,
-        0,
-        0,
-        0xa210,
-        0,
-        0,
-        0,
-        0,
-        0,
-        0,
-        0,
-        0,
-        0,
-    ];
-    for word in &words {
-        bytes.extend_from_slice(&word.to_le_bytes())?;
-    }
-    Ok(())
-}
-
 /// The id that an entry's container gives for a signature, and the first two signatures that the entry is for.
 fn by_table(catalog: &Catalog, i: u32, sig: u32) -> Option<(u16, Option<u32>, Option<u32>)> {
     if i < catalog.len() {
@@ -268,10 +187,7 @@ fn by_table(catalog: &Catalog, i: u32, sig: u32) -> Option<(u16, Option<u32>, Op
 fn each_patch_goes_by_its_own_containers_table(rt: HostRuntime) -> Result<(), Fail> {
     let alloc = rt.alloc();
     let mut catalog = Catalog::new(alloc);
-    let mut bytes = Vec::new(alloc);
-    push_container(&mut bytes, 0x00a2_0f10, 0x0a20_102b)?;
-    push_container(&mut bytes, 0x00a2_0f12, 0x0a20_1210)?;
-    assert_eq!(rt; add(&mut catalog, bytes), Ok(()));
+    assert_eq!(rt; add(&mut catalog, two_containers(alloc)?), Ok(()));
     assert_eq!(rt; catalog.len(), 2);
     let second = EntryFacts {
         file: 0,

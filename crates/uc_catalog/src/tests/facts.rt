@@ -1,5 +1,6 @@
 //! What is told of the entries of files, by values of the formats.
 use super::*;
+use std::alloc::{AllocError, Global};
 
 /// The words of an update of 64 bytes, no two alike but the two that have to be 1.
 const UPDATE: [u32; 16] = [
@@ -103,11 +104,7 @@ fn made(alloc: Global, keeps: bool) -> Catalog {
 }
 
 fn add_words(alloc: Global, catalog: &mut Catalog, words: &[u32]) -> Result<bool, AllocError> {
-    let mut bytes = Vec::new(alloc);
-    for word in words {
-        bytes.extend_from_slice(&word.to_le_bytes())?;
-    }
-    Ok(add(catalog, bytes).is_ok())
+    Ok(add(catalog, bytes_of(alloc, words)?).is_ok())
 }
 
 const UPDATE_FACTS: EntryFacts = EntryFacts {

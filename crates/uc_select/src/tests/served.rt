@@ -1,6 +1,7 @@
 //! Which cores a patch and an update are for: Linux 6.7, `arch/x86/kernel/cpu/microcode`, `amd.c` and `intel.c`, but that
 //! families 0Fh and 13h are offered nothing.
 use super::*;
+use update_samples::{SECTION, Section, push_section, push_words};
 
 /// Signatures and ids of two rows, the id of a patch, the signature of a core, and whether it is offered the patch. The id
 /// 0 stands for family 0Fh, which is never offered: whether it is an id at all shows only in what `uc_catalog` tells.
@@ -46,8 +47,14 @@ fn push_patch(bytes: &mut Vec<u8>, rows: &[(u32, u32); 2], id: u32) -> Result<()
     for (sig, row_id) in rows {
         push_words(bytes, &[*sig, 0, 0, *row_id])?;
     }
-    push_words(bytes, &[1, 64, 0, 7, 0, 0, 0, 0, id])?;
-    push_words(bytes, &[0, 0, 0, 0, 0, 0, 0, 0, 0])
+    push_section(
+        bytes,
+        &Section {
+            rev: 7,
+            id,
+            ..SECTION
+        },
+    )
 }
 
 #[test]
@@ -90,8 +97,11 @@ const FLAGS: [(u32, u32, bool); 8] = [
 #[test]
 fn flags_are_both_0_or_share_a_bit(rt: HostRuntime) -> Result<(), Fail> {
     for (flags, others, meet) in &FLAGS {
-        let cksum = 0xf8e5_d7b1u32.wrapping_sub(*flags);
-        let catalog = catalog_of(rt.alloc(), &[[0xf0, cksum, *flags, 0]])?;
+        let update = SmallUpdate {
+            flags: *flags,
+            ..SMALL
+        };
+        let catalog = catalog_of(rt.alloc(), &[update])?;
         assert_eq!(rt; catalog.len(), 1);
         let core = CoreFacts {
             flags: *others,
