@@ -1,0 +1,5 @@
+mod Coming
+mod Loaded
+mod Backed
+mod Asleep
+mod Cold

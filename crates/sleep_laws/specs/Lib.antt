@@ -1,0 +1,3 @@
+pub mod PowerUp
+pub mod Sleep
+pub mod Cold
