@@ -14,7 +14,7 @@ use Rattle.machine_steps.specs.declared.states.ThreadState.TheVariants.{Cold, Up
 use Rattle.machine_steps.specs.declared.answers.HotAnswer.TheVariants as hot
 use Rattle.machine_steps.specs.Hardware.{Hardware, is_off, is_on, is_up, all_cold, with_power, suspended}
 use Rattle.machine_steps.specs.Calls as calls
-use Rattle.machine_steps.specs.BringUps.{Patches, above, bring_up_each, remembered_threads}
+use Rattle.machine_steps.specs.BringUps.{CachedPatches, above, bring_up_each, remembered_threads}
 use Rattle.script_text.specs.declared.command.Command.{Command}
 use Rattle.script_text.specs.declared.command.Command.TheVariants as command
 use Rattle.session_text.specs.declared.answers.CommandAnswer.{CommandAnswer}
@@ -172,7 +172,7 @@ module _ (setting : Setting) (before : State) (refuses : ℕ → Bool) where
   abbrev pub their : List ℕ
   their = remembered_threads (machine_of setting) asleep.hardware
 
-  abbrev pub patches : Patches
+  abbrev pub patches : CachedPatches
   patches = cached_patches asleep
 
   abbrev pub resumed : Hardware

@@ -8,7 +8,7 @@ use Rattle.machine_steps.specs.declared.states.Power.{Power}
 use Rattle.machine_steps.specs.declared.states.ThreadState.{ThreadState}
 use Rattle.machine_steps.specs.declared.states.ThreadState.TheVariants.{Cold, Up}
 use Rattle.machine_steps.specs.Hardware.{Setting, Hardware, is_cold, all_cold, threads_in, put, with_thread}
-use Rattle.machine_steps.specs.BringUps.{Patches, revision, above, to_write, brought, bring_up, bring_up_each}
+use Rattle.machine_steps.specs.BringUps.{CachedPatches, revision, above, to_write, brought, bring_up, bring_up_each}
 
 -- ---- the revision at a power-up
 
@@ -190,7 +190,7 @@ brought_within old t g most (Some new) true low each = low
 brought_within old t g most (Some new) false low each =
     subst (λ (n : ℕ). n ≤ most) (sym (put_here old.rev g new)) (each new refl)
 
-module _ (setting : Setting) (patches : Patches) where
+module _ (setting : Setting) (patches : CachedPatches) where
   cold_write : (old : Hardware) (g : ℕ) → all_cold setting old g ≡ true →
       to_write setting patches old g ≡ above (old.rev g) (patches g)
   cold_write old g cold = ap (λ (b : Bool). if b then above (old.rev g) (patches g) else None) cold
