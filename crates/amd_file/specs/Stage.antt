@@ -1,5 +1,6 @@
 -- How many bytes are taken together.
 use Rattle.std.specs.Prelude.{ℕ, ◌+◌}
+use Rattle.uc_bytes.specs.declared.TheConstants.{FILE_LIMIT}
 use Rattle.amd_file.specs.declared.progress.Stage.{Stage}
 use Rattle.amd_file.specs.declared.progress.Stage.TheVariants.{Head, Next, Rows, Tail, Header, Body, Failed}
 
@@ -19,4 +20,4 @@ most (Rows more tail) = 16
 most (Tail left) = left + 1
 most (Header size) = 64
 most (Body header left) = left + 1
-most (Failed fault) = 67108864
+most (Failed fault) = FILE_LIMIT

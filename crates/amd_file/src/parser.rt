@@ -1,5 +1,6 @@
 //! A file that comes in pieces, a unit at a time.
 ghost use Rattle.std.specs.Prelude.{◌≡◌, ◌+◌, ◌<◌, ◌≤◌, length};
+ghost use Rattle.uc_bytes.specs.declared.TheConstants.{FILE_LIMIT};
 ghost use Rattle.amd_file.specs.Stage.{want};
 
 use crate::cut::end_of;
@@ -17,7 +18,7 @@ pub struct AmdParser {
     progress: Progress,
     held: ArrayVec<u8, 64>,
     ghost begun: { progress.start ≤ progress.fed },
-    ghost within: { progress.fed ≤ 67108864 },
+    ghost within: { progress.fed ≤ FILE_LIMIT },
     ghost short: { length held.items < want progress.stage },
 }
 
@@ -68,7 +69,7 @@ impl AmdParser {
     /// Goes on with a unit behind which nothing is held.
     fn advance(&mut self, progress: Progress, unit: &[u8]) -> AmdPart
         requires begun { progress.start ≤ progress.fed }
-        requires within { progress.fed ≤ 67108864 }
+        requires within { progress.fed ≤ FILE_LIMIT }
         requires least { want progress.stage ≤ length unit.now }
         requires most { length unit.now ≤ most progress.stage }
         requires none { array_vec_len self.old.held ≡ 0 }
@@ -87,7 +88,7 @@ impl AmdParser {
     /// Takes from the next bytes of the file what is of one unit, at least one byte where there is one, and tells what
     /// came with it. Behind a fault it takes all, and tells the fault again.
     pub fn take(&mut self, rest: &[u8]) -> Taken
-        requires { fed_of self.old + length rest.now ≤ 67108864 }
+        requires { fed_of self.old + length rest.now ≤ FILE_LIMIT }
         ensures within { result.len ≤ length rest.now }
         ensures some { 0 < length rest.now → 0 < result.len }
         ensures fed { fed_of self.new ≡ fed_of self.old + result.len }

@@ -1,5 +1,6 @@
 //! The containers of a file that comes in pieces.
 ghost use Rattle.std.specs.Prelude.{◌≡◌, ◌+◌, ◌≤◌, length};
+ghost use Rattle.uc_bytes.specs.declared.TheConstants.{FILE_LIMIT};
 
 use crate::container::AmdContainer;
 use crate::listing::{Listing, containers_of};
@@ -42,7 +43,7 @@ impl AmdStream {
 
     /// Takes a piece, unless memory runs out within it.
     fn take_in(&mut self, piece: &[u8]) -> Result<(), AllocError>
-        requires { fed_of self.old + length piece.now ≤ 67108864 }
+        requires { fed_of self.old + length piece.now ≤ FILE_LIMIT }
         ensures fed { OnOk result (fed_of self.new ≡ fed_of self.old + length piece.now) }
         ensures stands { OnOk result ((bytes : List ℕ) → Stands bytes self.old → Stands (bytes ++ piece.now) self.new) }
         ensures before { take (vec_len self.old.listing.patches) self.new.listing.patches.items
@@ -60,7 +61,7 @@ impl AmdStream {
     /// Takes the next bytes of the file, which has at most 67,108,864. A fault is the file's whatever follows, and
     /// later calls answer it again; without memory the stream is as before.
     pub fn feed(&mut self, piece: &[u8]) -> Result<(), FileAnswer>
-        requires { fed_of self.old + length piece.now ≤ 67108864 }
+        requires { fed_of self.old + length piece.now ≤ FILE_LIMIT }
         ensures fed { OnOk result (fed_of self.new ≡ fed_of self.old + length piece.now) }
         ensures stands { (bytes : List ℕ) → Stands bytes self.old → IsFed bytes piece.now self.new result }
     {

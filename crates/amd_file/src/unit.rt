@@ -1,6 +1,7 @@
 //! What the units of a file tell: the head of a container, a row of its table, the head of a section, the header of a
 //! patch, and bytes that are passed over.
 ghost use Rattle.std.specs.Prelude.{◌≡◌, ◌+◌, ◌≤◌, length};
+ghost use Rattle.uc_bytes.specs.declared.TheConstants.{FILE_LIMIT};
 ghost use Rattle.amd_file.specs.declared.progress.Stage.TheVariants.{Head, Next, Rows, Tail, Header, Body};
 ghost use Rattle.amd_file.specs.Stage.{want, most};
 ghost use Rattle.amd_file.specs.Parsing.{IsHeaderOf};
@@ -153,7 +154,7 @@ fn after_tail(progress: Progress, unit: &[u8], left: u32) -> Step
 /// A patch that came whole. Linux 6.7, `arch/x86/kernel/cpu/microcode/amd.c`, verify_patch.
 fn patch_end(progress: Progress, header: PatchHeader) -> Step
     requires begun { progress.start ≤ progress.fed }
-    requires within { progress.fed ≤ 67108864 }
+    requires within { progress.fed ≤ FILE_LIMIT }
     ensures { IsEndStep progress header result }
 {
     if is_past_bound(patch_family(header.id), header.len) {
@@ -200,7 +201,7 @@ fn read_header(unit: &[u8], len: u32) -> PatchHeader
 /// The header of a patch.
 fn after_header(progress: Progress, unit: &[u8], size: u32) -> Step
     requires begun { progress.start ≤ progress.fed }
-    requires within { progress.fed ≤ 67108864 }
+    requires within { progress.fed ≤ FILE_LIMIT }
     requires unit { length unit.now ≡ 64 }
     ensures { IsStepFrom (Header size) progress unit.now result }
 {
@@ -215,7 +216,7 @@ fn after_header(progress: Progress, unit: &[u8], size: u32) -> Step
 /// Bytes behind the header of a patch.
 fn after_body(progress: Progress, unit: &[u8], header: PatchHeader, left: u32) -> Step
     requires begun { progress.start ≤ progress.fed }
-    requires within { progress.fed ≤ 67108864 }
+    requires within { progress.fed ≤ FILE_LIMIT }
     requires unit { length unit.now ≤ left + 1 }
     ensures { IsStepFrom (Body header left) progress unit.now result }
 {
@@ -230,7 +231,7 @@ fn after_body(progress: Progress, unit: &[u8], header: PatchHeader, left: u32) -
 /// How far the bytes reach with a unit that ends them, and what it tells.
 pub fn after_unit(progress: Progress, unit: &[u8]) -> Step
     requires begun { progress.start ≤ progress.fed }
-    requires within { progress.fed ≤ 67108864 }
+    requires within { progress.fed ≤ FILE_LIMIT }
     requires least { want progress.stage ≤ length unit.now }
     requires most { length unit.now ≤ most progress.stage }
     ensures { IsStepFrom progress.stage progress unit.now result }

@@ -7,7 +7,7 @@ use Rattle.uc_bytes.specs.declared.causes.FileCause.{FileCause}
 use Rattle.uc_bytes.specs.declared.causes.FileCause.TheVariants.{TooLong}
 use Rattle.file_entries.specs.Reading.{Reading}
 use Rattle.entry_laws.proofs.Readings.{reading_or_fault, never_both as never_both_read, one_reading}
-use Rattle.file_reads.specs.declared.TheConstants.{FILE_LIMIT}
+use Rattle.uc_bytes.specs.declared.TheConstants.{FILE_LIMIT}
 use Rattle.file_reads.specs.Accepts.{Accepts, Refuses, AreAccepted}
 
 pub accepted_or_refused : (bytes : List ℕ) → ((reading : Reading) × Accepts bytes reading) ⊎ ((offset : ℕ) × (cause : FileCause) × Refuses bytes offset cause)

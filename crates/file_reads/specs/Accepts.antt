@@ -7,7 +7,8 @@ use Rattle.uc_topology.specs.declared.fault.TopoCause.TheVariants as topo
 use Rattle.uc_topology.specs.Stated.{Machine}
 use Rattle.uc_topology.specs.Texts.{States, FirstFault}
 use Rattle.file_entries.specs.Reading.{Reading, IsReading, HasFault}
-use Rattle.file_reads.specs.declared.TheConstants.{FILE_LIMIT, TOPOLOGY_LIMIT}
+use Rattle.uc_bytes.specs.declared.TheConstants.{FILE_LIMIT}
+use Rattle.file_reads.specs.declared.TheConstants.{TOPOLOGY_LIMIT}
 
 -- an update file that is accepted: it is within the limit and has a reading
 pub record Accepts (bytes : List ℕ) (reading : Reading) : Type 0 where

@@ -1,4 +1,4 @@
-//! What the reading of files comes to, as definitions, and how long a file may be.
+//! What the reading of files comes to, as definitions, and how long a topology may be.
 //!
 //! The definitions go by the bytes that were read, and not by what a name is said to hold: `specs/Reads` speaks of a list
 //! of reads, each a name with the bytes that were read under it. So they serve files that tell nothing of what they hold,
@@ -12,9 +12,6 @@
 mod laws;
 
 pub use laws::{accepted_files_are_read, some_outcome};
-
-/// The greatest length of an update file, in bytes.
-pub const FILE_LIMIT: u64 = 67_108_864;
 
 /// The greatest length of a topology, in bytes.
 pub const TOPOLOGY_LIMIT: u64 = 1_048_576;

@@ -1,5 +1,6 @@
 -- The rows of an Intel file's updates stand for its entries.
 use Rattle.std.proofs.Common.{◌≡◌, inl, inr, ℕ, zero, suc, ◌+◌, ◌*◌, ◌≤◌, Bool, true, false, List, [], ◌∷◌, ◌++◌, length, take, drop, map, refl, sym, ◌∙◌, ap, subst, arith, append_assoc, length-append, length-drop}
+use Rattle.uc_bytes.specs.declared.TheConstants.{FILE_LIMIT}
 use Rattle.std.specs.Prelude.{All, IsTrue}
 use Rattle.std.proofs.lemmas.List.{drop_at, take_at, append-nil}
 use Rattle.std.proofs.lemmas.List.Elements.{All-nil, All-cons}
@@ -96,7 +97,7 @@ inside_kept true file us is keep = all_inside 0 0 (length file) us (omega (arith
 inside_kept false file us is keep = absurd (false≢true keep)
 
 -- so they do in a file
-pub updates_stand : (keeps : Bool) (file : List ℕ) (us : List FileUpdate) (rows : UpdateRows) → length rows.pairs.items ≤ 67108864 → IntelFile file us → AreUpdateRows us rows → StandUpdates keeps (kept_bytes keeps file) rows
+pub updates_stand : (keeps : Bool) (file : List ℕ) (us : List FileUpdate) (rows : UpdateRows) → length rows.pairs.items ≤ FILE_LIMIT → IntelFile file us → AreUpdateRows us rows → StandUpdates keeps (kept_bytes keeps file) rows
 updates_stand keeps file us rows few is are = record {
   few_pairs = few;
   few = omega (arith, is.few, many_rows 0 0 us, ap (λ (l : List UpdateRow). length l) are.rows);

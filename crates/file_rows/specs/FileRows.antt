@@ -1,5 +1,6 @@
 -- What rows of either vendor stand for.
 use Rattle.std.specs.Prelude.{ℕ, ◌+◌, ◌<◌, ◌≤◌, Bool, List, length, map, slice_index_or, All, IsTrue, Result, Ok, Err}
+use Rattle.uc_bytes.specs.declared.TheConstants.{FILE_LIMIT}
 use Rattle.uc_bytes.specs.declared.causes.FileFault.{FileFault}
 use Rattle.uc_bytes.specs.declared.causes.Vendor.{Vendor}
 use Rattle.uc_bytes.specs.declared.causes.Vendor.TheVariants.{Intel, Amd}
@@ -56,7 +57,7 @@ AreRowsOf reading rows = ⊥
 
 -- there are no more pairs than a file has bytes
 abbrev pub HasFewPairs : FileRows → Type 0
-HasFewPairs (Updates kept) = length kept.pairs.items ≤ 67108864
+HasFewPairs (Updates kept) = length kept.pairs.items ≤ FILE_LIMIT
 HasFewPairs (Patches kept) = Unit {0}
 
 -- no more bytes come: the rows are those of the file, or it has this fault
@@ -68,7 +69,7 @@ IsFinished bytes (Err fault) = HasFault bytes fault.offset fault.cause
 -- that are kept, where they are
 pub record StandUpdates (keeps : Bool) (bytes : List ℕ) (kept : UpdateRows) : Type 0 where
   pub few : length kept.rows.items ≤ 65536
-  pub few_pairs : length kept.pairs.items ≤ 67108864
+  pub few_pairs : length kept.pairs.items ≤ FILE_LIMIT
   pub pairs : All (λ row. row.pairs_at + row.pairs ≤ length kept.pairs.items) kept.rows.items
   pub long : All (λ row. 48 ≤ row.len) kept.rows.items
   pub inside : IsTrue keeps → All (λ row. row.start + row.len ≤ length bytes) kept.rows.items

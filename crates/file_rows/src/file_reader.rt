@@ -1,5 +1,6 @@
 //! A file of either vendor that comes in pieces, and the rows of its entries.
 ghost use Rattle.std.specs.Prelude.{◌≡◌, ◌+◌, ◌<◌, ◌≤◌, ◌++◌, ℕ, List, [], None, IfOk, length};
+ghost use Rattle.uc_bytes.specs.declared.TheConstants.{FILE_LIMIT};
 ghost use Rattle.file_rows.specs.FileRows.{HasFewPairs, IsFinished};
 
 use crate::patch_reader::PatchReader;
@@ -73,7 +74,7 @@ impl FileReader {
 
     /// Reads an Intel file from its first four bytes on.
     fn begin_updates(&mut self, rest: &[u8]) -> Result<(), FileAnswer>
-        requires { length self.old.head.items + length rest.now ≤ 67108864 }
+        requires { length self.old.head.items + length rest.now ≤ FILE_LIMIT }
         ensures head { self.new.head ≡ self.old.head }
         ensures fault { self.new.fault ≡ self.old.fault }
         ensures fed { fed_of self.new ≤ length self.old.head.items + length rest.now }
@@ -89,7 +90,7 @@ impl FileReader {
 
     /// Reads an AMD file from its first four bytes on.
     fn begin_patches(&mut self, rest: &[u8]) -> Result<(), FileAnswer>
-        requires { length self.old.head.items + length rest.now ≤ 67108864 }
+        requires { length self.old.head.items + length rest.now ≤ FILE_LIMIT }
         ensures head { self.new.head ≡ self.old.head }
         ensures fault { self.new.fault ≡ self.old.fault }
         ensures fed { fed_of self.new ≤ length self.old.head.items + length rest.now }
@@ -106,7 +107,7 @@ impl FileReader {
     /// Reads a file from its first four bytes on, which tell whose it is.
     fn begin(&mut self, rest: &[u8]) -> Result<(), FileAnswer>
         requires four { 4 ≤ length self.old.head.items }
-        requires short { length self.old.head.items + length rest.now ≤ 67108864 }
+        requires short { length self.old.head.items + length rest.now ≤ FILE_LIMIT }
         ensures head { self.new.head ≡ self.old.head }
         ensures fault { self.new.fault ≡ self.old.fault }
         ensures fed { fed_of self.new ≤ length self.old.head.items + length rest.now }
@@ -122,7 +123,7 @@ impl FileReader {
     /// Takes a piece while it is not known whose the file is.
     fn take_head(&mut self, piece: &[u8]) -> Result<(), FileAnswer>
         requires unknown { self.old.vendor ≡ None }
-        requires short { fed_of self.old + length piece.now ≤ 67108864 }
+        requires short { fed_of self.old + length piece.now ≤ FILE_LIMIT }
         ensures fault { self.new.fault ≡ self.old.fault }
         ensures fed { fed_of self.new ≤ fed_of self.old + length piece.now }
         ensures come { (bytes : List ℕ) → Comes bytes self.old → IsCome bytes piece.now self.new result }
@@ -146,7 +147,7 @@ impl FileReader {
 
     /// Takes a piece, where there is no fault yet.
     fn take_piece(&mut self, piece: &[u8]) -> Result<(), FileAnswer>
-        requires { fed_of self.old + length piece.now ≤ 67108864 }
+        requires { fed_of self.old + length piece.now ≤ FILE_LIMIT }
         ensures fault { self.new.fault ≡ self.old.fault }
         ensures fed { fed_of self.new ≤ fed_of self.old + length piece.now }
         ensures come { (bytes : List ℕ) → Comes bytes self.old → IsCome bytes piece.now self.new result }
@@ -163,7 +164,7 @@ impl FileReader {
     /// Takes the next bytes of the file, which has at most 67,108,864. It answers a fault exactly where the bytes have
     /// one that no further bytes undo, and later calls answer it again; without memory all is as before.
     pub fn feed(&mut self, piece: &[u8]) -> Result<(), FileAnswer>
-        requires { fed_of self.old + length piece.now ≤ 67108864 }
+        requires { fed_of self.old + length piece.now ≤ FILE_LIMIT }
         ensures fed { fed_of self.new ≤ fed_of self.old + length piece.now }
         ensures reads { (bytes : List ℕ) → Reads bytes self.old → IsFed bytes piece.now self.new result }
     {

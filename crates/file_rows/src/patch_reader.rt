@@ -1,5 +1,6 @@
 //! An AMD file that comes in pieces, and the rows of its patches.
 ghost use Rattle.std.specs.Prelude.{◌≤◌, length};
+ghost use Rattle.uc_bytes.specs.declared.TheConstants.{FILE_LIMIT};
 ghost use Rattle.amd_file.specs.Parser.{fed_of as parsed_of};
 
 use crate::gathered::Gathered;
@@ -43,7 +44,7 @@ impl PatchReader {
     /// Takes the next bytes of the file, which has at most 67,108,864. A fault is the file's whatever follows; without
     /// memory all is as before.
     pub fn feed(&mut self, piece: &[u8]) -> Result<(), FileAnswer>
-        requires { fed_of self.old + length piece.now ≤ 67108864 }
+        requires { fed_of self.old + length piece.now ≤ FILE_LIMIT }
         ensures fed { fed_of self.new ≤ fed_of self.old + length piece.now }
         ensures reads { (bytes : List ℕ) → Reads bytes self.old → IsFed bytes piece.now self.new result }
     {

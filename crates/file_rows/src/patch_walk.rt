@@ -1,5 +1,6 @@
 //! What comes with a piece of an AMD file, gathered.
 ghost use Rattle.std.specs.Prelude.{◌≡◌, ◌+◌, ◌≤◌, ◌++◌, ℕ, List, OnOk, length, take, vec_len};
+ghost use Rattle.uc_bytes.specs.declared.TheConstants.{FILE_LIMIT};
 ghost use Rattle.amd_file.specs.Parser.{fed_of};
 ghost use Rattle.file_rows.specs.PatchWalk.{Gathers};
 
@@ -13,7 +14,7 @@ pub fn gather_piece(
     gathered: &mut Gathered,
     piece: &[u8],
 ) -> Result<(), NoMemory>
-    requires short { fed_of parser.old + length piece.now ≤ 67108864 }
+    requires short { fed_of parser.old + length piece.now ≤ FILE_LIMIT }
     requires few_table { length gathered.old.table.items ≤ fed_of parser.old }
     requires few_fresh { length gathered.old.fresh.items ≤ fed_of parser.old }
     ensures fed { fed_of parser.new ≤ fed_of parser.old + length piece.now }

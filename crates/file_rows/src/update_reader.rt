@@ -1,5 +1,6 @@
 //! An Intel file that comes in pieces, and the rows of its updates.
 ghost use Rattle.std.specs.Prelude.{◌≤◌, length};
+ghost use Rattle.uc_bytes.specs.declared.TheConstants.{FILE_LIMIT};
 
 use crate::update_walk::walk_piece;
 use crate::updates::UpdateRows;
@@ -15,7 +16,7 @@ pub struct UpdateReader {
     /// How many bytes came.
     fed: usize,
     ghost few: { length rows.pairs.items ≤ fed },
-    ghost within: { fed ≤ 67108864 },
+    ghost within: { fed ≤ FILE_LIMIT },
 }
 
 impl UpdateReader {
@@ -44,7 +45,7 @@ impl UpdateReader {
     /// Takes the next bytes of the file, which has at most 67,108,864. A fault is the file's whatever follows; without
     /// memory all is as before.
     pub fn feed(&mut self, piece: &[u8]) -> Result<(), FileAnswer>
-        requires { self.old.fed + length piece.now ≤ 67108864 }
+        requires { self.old.fed + length piece.now ≤ FILE_LIMIT }
         ensures fed { self.new.fed ≤ self.old.fed + length piece.now }
         ensures reads { (bytes : List ℕ) → Reads bytes self.old → IsFed bytes piece.now self.new result }
     {
@@ -71,7 +72,7 @@ impl UpdateReader {
     /// The rows of the file, of which no more bytes come, or its fault.
     pub fn finish(self) -> Result<UpdateRows, FileFault>
         ensures finished { (bytes : List ℕ) → Reads bytes self → IsFinished bytes result }
-        ensures few { IfOk result (λ kept. length kept.pairs.items ≤ 67108864) }
+        ensures few { IfOk result (λ kept. length kept.pairs.items ≤ FILE_LIMIT) }
     {
         match self.walk.end() {
             Some(fault) => Err(fault),

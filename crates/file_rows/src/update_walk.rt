@@ -1,5 +1,6 @@
 //! What comes with a piece of an Intel file, as rows.
 ghost use Rattle.std.specs.Prelude.{◌≡◌, ◌+◌, ◌<◌, ◌≤◌, ◌++◌, ℕ, List, OnOk, IfOk, IfErr, length, take, option_to_list, vec_len};
+ghost use Rattle.uc_bytes.specs.declared.TheConstants.{FILE_LIMIT};
 ghost use Rattle.uc_bytes.specs.declared.causes.FileAnswer.TheVariants.{NoMemory as NoMemoryAnswer};
 ghost use Rattle.intel_format.specs.File.{FileUpdate};
 ghost use Rattle.intel_file.specs.declared.walk.IntelWalk.{IntelWalk as Walk};
@@ -54,7 +55,7 @@ fn add(
     header: &IntelHeader,
     took: &Took,
 ) -> Result<Option<FileFault>, FileAnswer>
-    requires { length rows.old.pairs.items < 67108864 }
+    requires { length rows.old.pairs.items < FILE_LIMIT }
     ensures added { (walk : Walk) (bytes : List ℕ) (us : List FileUpdate) (pairs : List (ℕ × ℕ))
         → header_in walk ≡ header.now → HasRows us pairs rows.old
         → IsTaken bytes us (pairs ++ option_to_list took.now.pair) walk took.now.what
@@ -77,11 +78,11 @@ pub fn walk_piece(
     rows: &mut UpdateRows,
     piece: &[u8],
 ) -> Result<Option<FileFault>, FileAnswer>
-    requires { length rows.old.pairs.items + length piece.now ≤ 67108864 }
+    requires { length rows.old.pairs.items + length piece.now ≤ FILE_LIMIT }
     ensures few { length rows.new.pairs.items ≤ length rows.old.pairs.items + length piece.now }
     ensures rows { take (vec_len rows.old.rows) rows.new.rows.items ≡ rows.old.rows.items }
     ensures pairs { take (vec_len rows.old.pairs) rows.new.pairs.items ≡ rows.old.pairs.items }
-    ensures walked { (bytes : List ℕ) → Lists walk.old rows.old bytes → length bytes + length piece.now ≤ 67108864
+    ensures walked { (bytes : List ℕ) → Lists walk.old rows.old bytes → length bytes + length piece.now ≤ FILE_LIMIT
         → IsWalked (bytes ++ piece.now) walk.new rows.new result }
     ensures full { IfErr result (λ answer. answer ≡ NoMemoryAnswer) }
 {

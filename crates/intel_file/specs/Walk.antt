@@ -1,5 +1,6 @@
 -- How far a walk over a file came.
 use Rattle.std.specs.Prelude.{◌≡◌, ℕ, ◌<◌, ◌≤◌, List, [], ◌∷◌, ◌++◌, length, Option, Some, None}
+use Rattle.uc_bytes.specs.declared.TheConstants.{FILE_LIMIT}
 use Rattle.uc_bytes.specs.declared.causes.FileFault.{FileFault}
 use Rattle.intel_format.specs.declared.header.IntelHeader.{IntelHeader}
 use Rattle.intel_format.specs.File.{FileUpdate, AreUpdates, joined, IntelFile, IsFault}
@@ -29,7 +30,7 @@ pub record Stands (walk : IntelWalk) (bytes : List ℕ) (us : List FileUpdate) (
 pub record Brought (walk : IntelWalk) (bytes own : List ℕ) (us : List FileUpdate) (pairs : List (ℕ × ℕ)) (end : End)
     : Type 0 where
   pub split : bytes ≡ joined us ++ own
-  pub within : length bytes ≤ 67108864
+  pub within : length bytes ≤ FILE_LIMIT
   pub some : 0 < length own
   pub each : AreUpdates us
   pub start : walk.start ≡ length (joined us)

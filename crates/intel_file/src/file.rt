@@ -1,4 +1,5 @@
 ghost use Rattle.std.specs.Prelude.{◌≤◌, length};
+ghost use Rattle.uc_bytes.specs.declared.TheConstants.{FILE_LIMIT};
 ghost use Rattle.intel_file.specs.Reading.{IsFileRead};
 
 use crate::stream::IntelStream;
@@ -21,7 +22,7 @@ pub struct IntelUpdate {
 /// The updates of a file, or the first fault: where the first update begins that fails a check, and the first check
 /// that it fails. The file has at most 67,108,864 bytes.
 pub fn read_intel(alloc: Global, bytes: &[u8]) -> Result<Vec<IntelUpdate>, FileAnswer>
-    requires { length bytes.now ≤ 67108864 }
+    requires { length bytes.now ≤ FILE_LIMIT }
     ensures { IsFileRead bytes.now result }
 {
     let mut stream = IntelStream::new(alloc);

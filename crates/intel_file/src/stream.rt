@@ -1,5 +1,6 @@
 //! An Intel file that comes in pieces, and the list of its updates.
 ghost use Rattle.std.specs.Prelude.{◌≡◌, ◌+◌, ◌≤◌, ℕ, List, [], ◌++◌, length, OnOk, vec_len, take, IfErr};
+ghost use Rattle.uc_bytes.specs.declared.TheConstants.{FILE_LIMIT};
 ghost use Rattle.uc_bytes.specs.declared.causes.FileAnswer.TheVariants.{NoMemory as NoMemoryAnswer};
 ghost use Rattle.intel_format.specs.File.{FileUpdate};
 ghost use Rattle.intel_file.specs.Reading.{listed};
@@ -59,7 +60,7 @@ fn walk_piece(
 ) -> Result<Option<FileFault>, FileAnswer>
     ensures kept { take (vec_len updates.old) updates.new.items ≡ updates.old.items }
     ensures walked { (bytes : List ℕ) → Lists walk.old updates.old.items bytes
-        → length bytes + length piece.now ≤ 67108864
+        → length bytes + length piece.now ≤ FILE_LIMIT
         → IsWalked (bytes ++ piece.now) walk.new updates.new.items result }
     ensures full { IfErr result (λ answer. answer ≡ NoMemoryAnswer) }
 {
@@ -103,7 +104,7 @@ impl IntelStream {
     /// Takes the next bytes of the file, which has at most 67,108,864. A fault is the file's whatever follows, and
     /// later calls answer it again; without memory the stream is as before.
     pub fn feed(&mut self, piece: &[u8]) -> Result<(), FileAnswer>
-        requires { fed_of self.old + length piece.now ≤ 67108864 }
+        requires { fed_of self.old + length piece.now ≤ FILE_LIMIT }
         ensures fed { OnOk result (fed_of self.new ≡ fed_of self.old + length piece.now) }
         ensures stands { (bytes : List ℕ) → Stands bytes self.old → IsFed bytes piece.now self.new result }
     {

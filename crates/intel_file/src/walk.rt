@@ -1,6 +1,7 @@
 //! A walk over an Intel file that comes in pieces, an update at a time. It takes no memory, and keeps no bytes but
 //! those that are short of a unit.
 ghost use Rattle.std.specs.Prelude.{◌≡◌, ◌<◌, ◌≤◌, ◌+◌, ℕ, List, [], ◌++◌, length, take, option_to_list};
+ghost use Rattle.uc_bytes.specs.declared.TheConstants.{FILE_LIMIT};
 ghost use Rattle.intel_format.specs.File.{FileUpdate};
 ghost use Rattle.intel_file.specs.Stage.{unit_of};
 
@@ -136,7 +137,7 @@ impl IntelWalk {
         ensures some { 0 < result.len }
         ensures within { result.len ≤ length rest.now }
         ensures took { (bytes : List ℕ) (us : List FileUpdate) (pairs : List (ℕ × ℕ)) → Stands self.old bytes us pairs
-            → length bytes + length rest.now ≤ 67108864
+            → length bytes + length rest.now ≤ FILE_LIMIT
             → IsTaken (bytes ++ take result.len rest.now) us (pairs ++ option_to_list result.pair)
             self.new result.what }
     {

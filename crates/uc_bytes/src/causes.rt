@@ -76,7 +76,7 @@ pub enum FileCause {
     Chipset,
     /// More than 65,536 updates or patches.
     TooMany,
-    /// More than 67,108,864 bytes.
+    /// More than [`FILE_LIMIT`](crate::FILE_LIMIT) bytes.
     TooLong,
 }
 

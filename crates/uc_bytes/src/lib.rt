@@ -11,5 +11,8 @@ pub use causes::{FileAnswer, FileCause, FileFault, NoMemory, Vendor};
 pub use texts::Text;
 pub use words::{half_at, put_word, word_at, word_sum};
 
+/// The greatest length of an update file, in bytes.
+pub const FILE_LIMIT: u64 = 67_108_864;
+
 #[cfg(test)]
 mod tests;

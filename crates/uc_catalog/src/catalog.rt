@@ -1,4 +1,5 @@
 ghost use Rattle.std.specs.Prelude.{◌≡◌, ◌^◌, ◌<◌, ◌≤◌, ◌+◌, IsTrue, length, slice_get, sum_by, take, ℕ, List, None, Some, vec_len};
+ghost use Rattle.uc_bytes.specs.declared.TheConstants.{FILE_LIMIT};
 
 use crate::coming::Coming;
 use crate::file::{KeptFile, keep_rows};
@@ -75,7 +76,7 @@ impl Catalog {
     /// reading is refused with its first fault. Where it is, or where memory runs out, the catalogue stays as it was.
     pub fn add(&mut self, bytes: Vec<u8>) -> Result<(), FileAnswer>
         requires room { length self.old.files < 16 }
-        requires short { vec_len bytes ≤ 67108864 }
+        requires short { vec_len bytes ≤ FILE_LIMIT }
         ensures added { IsAdded self.old self.new bytes.items result }
         ensures counted { IsCounted self.new }
     {
@@ -97,7 +98,7 @@ impl Catalog {
     /// where its bytes have one that no further bytes undo, and later calls answer it again. Files and entries stay as
     /// they were.
     pub fn feed(&mut self, piece: &[u8]) -> Result<(), FileAnswer>
-        requires { fed_of self.old + length piece.now ≤ 67108864 }
+        requires { fed_of self.old + length piece.now ≤ FILE_LIMIT }
         ensures same { self.new ≡ with_coming self.new.coming self.old }
         ensures fed { fed_of self.new ≤ fed_of self.old + length piece.now }
         ensures come { (bytes : List ℕ) → Comes bytes self.old → IsFed bytes piece.now self.new result }

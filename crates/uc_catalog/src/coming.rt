@@ -1,5 +1,6 @@
 //! A file that is being read.
 ghost use Rattle.std.specs.Prelude.{◌≡◌, ◌+◌, ◌≤◌, ◌++◌, ℕ, Bool, List, [], IfOk, OnOk, OnErr, length, take, vec_len};
+ghost use Rattle.uc_bytes.specs.declared.TheConstants.{FILE_LIMIT};
 ghost use Rattle.file_rows.specs.Kept.{kept_bytes};
 ghost use Rattle.file_rows.specs.FileReading.{fed_of};
 ghost use Rattle.uc_catalog.specs.Coming.{ComesIn, ComesBy, IsFedIn, IsFinishedIn, HasFewPairsIn, fed_by};
@@ -54,7 +55,7 @@ impl Coming {
 
     /// Takes the next bytes of the file, which has at most 67,108,864, and keeps them where it is to.
     pub fn feed(&mut self, keeps: bool, piece: &[u8]) -> Result<(), FileAnswer>
-        requires { fed_of self.old.reader + length piece.now ≤ 67108864 }
+        requires { fed_of self.old.reader + length piece.now ≤ FILE_LIMIT }
         ensures fed { fed_of self.new.reader ≤ fed_of self.old.reader + length piece.now }
         ensures come { (bytes : List ℕ) → ComesIn keeps bytes self.old → IsFedIn keeps bytes piece.now self.new result }
     {

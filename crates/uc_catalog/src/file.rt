@@ -1,5 +1,6 @@
 //! What is kept of a file.
 ghost use Rattle.std.specs.Prelude.{◌≤◌, length};
+ghost use Rattle.uc_bytes.specs.declared.TheConstants.{FILE_LIMIT};
 ghost use Rattle.uc_catalog.specs.Files.{IsFileKept};
 
 use file_rows::{FileReader, FileRows};
@@ -16,7 +17,7 @@ pub struct KeptFile {
 
 /// The entries of a file, or its first fault.
 pub fn keep_rows(alloc: Global, file: &[u8]) -> Result<FileRows, FileAnswer>
-    requires { length file.now ≤ 67108864 }
+    requires { length file.now ≤ FILE_LIMIT }
     ensures { IsFileKept file.now result }
 {
     let mut reader = FileReader::new(alloc);

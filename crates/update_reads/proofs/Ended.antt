@@ -1,6 +1,6 @@
 -- What the end of an update file comes to.
 use Rattle.std.proofs.Common.{◌≡◌, inr, ℕ, ◌≤◌, List, length, Option, None, Result, Ok, Err, ◌∙◌, ap, subst}
-use Rattle.file_reads.specs.declared.TheConstants.{FILE_LIMIT}
+use Rattle.uc_bytes.specs.declared.TheConstants.{FILE_LIMIT}
 use Rattle.uc_catalog.specs.declared.coming.Coming.{Coming}
 use Rattle.uc_catalog.specs.Contents.{Contents, Adds, with_coming}
 use Rattle.update_reads.specs.declared.answers.UpdateAnswer.{UpdateAnswer}

@@ -7,7 +7,7 @@ use Rattle.std.proofs.lemmas.Option.{get_or_from_slice_get, slice_get_within}
 use Rattle.uc_bytes.specs.declared.causes.FileFault.{FileFault}
 use Rattle.file_entries.specs.Reading.{Reading}
 use Rattle.file_entries.specs.Entry.{Entry, entries_of, entries_from}
-use Rattle.file_reads.specs.declared.TheConstants.{FILE_LIMIT}
+use Rattle.uc_bytes.specs.declared.TheConstants.{FILE_LIMIT}
 use Rattle.file_reads.specs.Accepts.{Refuses, AreAccepted}
 use Rattle.file_reads.specs.Reads.{Read, files_of, ComesTo}
 use Rattle.file_reads.proofs.Accepted.{accepted_length, accepted_push}

@@ -1,12 +1,11 @@
 //! The pieces of an open update file, which are fed to a catalogue.
 ghost use Rattle.std.specs.Prelude.{◌≡◌, ◌+◌, ◌<◌, ◌≤◌, ◌++◌, ℕ, List, None, IfOk, length};
 ghost use Rattle.uc_catalog.specs.Contents.{with_coming, fed_of, Comes};
-ghost use Rattle.file_reads.specs.declared.TheConstants.{FILE_LIMIT as MOST};
+ghost use Rattle.uc_bytes.specs.declared.TheConstants.{FILE_LIMIT as MOST};
 ghost use Rattle.update_reads.specs.Fed.{HasCome, ArePiecesFed, IsUpdateEnded};
 
 use crate::answers::UpdateAnswer;
-use file_reads::FILE_LIMIT;
-use uc_bytes::{FileAnswer, FileCause, FileFault, NoMemory};
+use uc_bytes::{FILE_LIMIT, FileAnswer, FileCause, FileFault, NoMemory};
 use uc_catalog::Catalog;
 use uc_io::{Files, PieceFailed};
 

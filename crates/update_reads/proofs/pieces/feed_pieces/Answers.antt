@@ -1,5 +1,5 @@
 use Rattle.std.proofs.Common.{◌≡◌, inl, ℕ, ◌+◌, ◌<◌, ◌≤◌, List, ◌++◌, length, take, refl, sym, ◌∙◌, ap, arith, append_assoc, length-append, length-take-le}
-use Rattle.file_reads.specs.declared.TheConstants.{FILE_LIMIT}
+use Rattle.uc_bytes.specs.declared.TheConstants.{FILE_LIMIT}
 use Rattle.file_reads.proofs.Accepted.{past_limit}
 use Rattle.uc_catalog.specs.Contents.{Contents, with_coming}
 use Rattle.update_reads.proofs.pieces.feed_pieces.Goals as goal

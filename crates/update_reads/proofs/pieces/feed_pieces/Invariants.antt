@@ -1,5 +1,5 @@
 use Rattle.std.proofs.Common.{◌≡◌, ℕ, ◌-◌, ◌≤◌}
-use Rattle.file_reads.specs.declared.TheConstants.{FILE_LIMIT}
+use Rattle.uc_bytes.specs.declared.TheConstants.{FILE_LIMIT}
 use Rattle.uc_catalog.specs.Contents.{with_coming, fed_of}
 use Rattle.update_reads.specs.Fed.{HasTaken}
 use Rattle.update_reads.proofs.pieces.feed_pieces.Given as goal
