@@ -1,3 +1,4 @@
+mod EventLines
 mod FirstLines
 mod Lines
 mod Read

@@ -16,7 +16,7 @@ use uc_bytes::NoMemory;
 use uc_text::{Words, number};
 
 /// The events that one load may have.
-const MOST_EVENTS: u64 = 4_194_304;
+pub const MOST_EVENTS: u64 = 4_194_304;
 
 /// A beat that the first word of a text states, what follows the word and the byte behind it, and whether that byte ends
 /// the line.
@@ -95,8 +95,9 @@ fn add_words<'a>(
     Ok(rest)
 }
 
-/// Puts the beats of the words at the front of a text behind those of their load, as long as each is an event of two bytes
-/// and a space stands behind it, and returns what follows them. Most words of a long line are so, and each beat is one event.
+/// Puts the beats of the words at the front of a text behind those of their load, as long as each is an event of two
+/// bytes and a space stands behind it, and returns what follows them. Most words of a long line are so, and each is one
+/// event.
 #[inline(always)]
 fn add_events<'a>(
     limits: Limits,
@@ -119,15 +120,15 @@ fn add_events<'a>(
 
 /// An event that the first word of a text states, and what follows the word and the byte behind it.
 #[derive(Clone, Copy, Debug)]
-struct FirstEvent<'a> {
-    event: Beat,
-    rest: &'a [u8],
+pub struct FirstEvent<'a> {
+    pub event: Beat,
+    pub rest: &'a [u8],
 }
 
-/// The event of the first word of a text, where it has two bytes, and a space stands behind it, or an LF where the line is to
-/// end.
+/// The event of the first word of a text, where it has two bytes, and a space stands behind it, or an LF where the line
+/// is to end.
 #[inline(always)]
-fn first_event(limits: Limits, text: &[u8], is_last: bool) -> Option<FirstEvent<'_>>
+pub fn first_event(limits: Limits, text: &[u8], is_last: bool) -> Option<FirstEvent<'_>>
     ensures { IfSome result (λ first. IsFirstEvent limits text.now first.event first.rest.now is_last) }
 {
     let word = first_of_two_bytes(text, is_last)?;

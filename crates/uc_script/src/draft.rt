@@ -208,6 +208,10 @@ impl Draft {
         let mut load = load;
         let mut events = 0;
         loop {
+            match lines.add_event_lines(limits, &mut load.beats, &mut events) {
+                Ok(()) => {}
+                Err(NoMemory) => return Err(ScriptAnswer::NoMemory),
+            }
             match lines.add_short_line(limits, &mut load.beats, &mut events) {
                 Some(Ok(())) => continue,
                 Some(Err(answer)) => return Err(answer),

@@ -1,16 +1,18 @@
 //! The text that is left of a script, line by line.
-ghost use Rattle.std.specs.Prelude.{◌≡◌, ◌+◌, ◌≤◌, ◌∷◌, [], length, take, drop, filter, MatchOption};
+ghost use Rattle.std.specs.Prelude.{◌≡◌, ◌+◌, ◌≤◌, ◌∷◌, [], length, take, drop, filter, MatchOption, OnOk};
 ghost use Rattle.std.specs.List.{position_or_len};
 ghost use Rattle.std.specs.Str.Lines.{strip_carriage_return};
 ghost use Rattle.uc_text.specs.Lines.{is_line_feed, counts, numbered_lines};
 ghost use Rattle.uc_script.specs.FirstLine.{first_line, after_line};
+ghost use Rattle.uc_script.specs.EventLines.{ReadsOn};
 ghost use Rattle.uc_script.specs.Schedules.{Counted, AddsShortLine};
 
 use crate::answer::ScriptAnswer;
-use crate::beats::add_line;
+use crate::beats::{MOST_EVENTS, add_line, first_event};
 use memchr::memchr;
 use script_text::{Beats, Limits};
 use std::marker::Model;
+use uc_bytes::NoMemory;
 use uc_text::{Line, Words};
 
 /// What is left of a text, from the begin of a line. A contract sees the lines that are left, with their numbers.
@@ -72,6 +74,33 @@ impl<'a> Rest<'a> {
         self.text = text;
         self.number += 1;
         Some(line)
+    }
+
+    /// Puts the events of the next lines behind the beats of their load, as long as each line is one word of two bytes
+    /// and the load may have one more event. Scripts often have one event in a line, so these cost no look at others.
+    #[inline(always)]
+    pub fn add_event_lines(
+        &mut self,
+        limits: Limits,
+        beats: &mut Beats,
+        events: &mut u64,
+    ) -> Result<(), NoMemory>
+        requires { Counted limits beats.old events.old }
+        ensures { OnOk result (ReadsOn limits (filter counts self.old) beats.old (filter counts self.new) beats.new × Counted limits beats.new events.new) }
+    {
+        let (mut text, mut number) = (self.text, self.number);
+        while *events < MOST_EVENTS {
+            let Some(first) = first_event(limits, text, true) else {
+                break;
+            };
+            beats.push(first.event)?;
+            *events += 1;
+            text = first.rest;
+            number += 1;
+        }
+        self.text = text;
+        self.number = number;
+        Ok(())
     }
 
     /// Puts the beats of the next line behind those of its load, whose events are counted, where the line begins with a

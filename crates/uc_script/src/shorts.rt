@@ -63,8 +63,8 @@ pub fn first_short(text: &[u8]) -> Option<Short<'_>>
     })
 }
 
-/// The first word of a text, where it has two bytes, begins the text, and a space stands behind it, or an LF where the line
-/// is to end. No other shape is looked at, so that this stays small where it is laid into a loop.
+/// The first word of a text, where it has two bytes, begins the text, and a space stands behind it, or an LF where the
+/// line is to end. No other shape is looked at, so that this stays small where it is laid into a loop.
 #[inline(always)]
 pub fn first_of_two_bytes(text: &[u8], is_last: bool) -> Option<Short<'_>>
     ensures { IfSome result (λ word. (is_mark word.mark ≡ true → IsFirstShort text.now word.mark word.number word.rest.now word.is_last) × (word.is_last ≡ is_last)) }

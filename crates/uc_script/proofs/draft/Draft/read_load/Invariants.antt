@@ -6,8 +6,8 @@ use Rattle.uc_script.specs.Schedules.{Counted}
 use Rattle.uc_script.proofs.draft.Draft.read_load.Given as goal
 
 -- the lines that are left are read on as all of them are
-abbrev pub invariant-loop-answer : goal.invariant-loop-answer
-invariant-loop-answer l = record {
+abbrev pub invariant-loop-load : goal.invariant-loop-load
+invariant-loop-load l = record {
   same : read_on l.limits (record l.initial.self { place = InLoad; load = l.load }) (filter counts l.lines)
       ≡ read_on l.limits (record l.initial.self { place = InLoad; load = l.initial.load }) (filter counts l.initial.lines);
   kept : l.self ≡ l.initial.self;
@@ -15,5 +15,5 @@ invariant-loop-answer l = record {
   fewer : length (filter counts l.lines) ≤ length (filter counts l.initial.lines);
 }
 
-abbrev pub decreases-loop-answer : goal.decreases-loop-answer
-decreases-loop-answer l = length (filter counts l.lines)
+abbrev pub decreases-loop-load : goal.decreases-loop-load
+decreases-loop-load l = length (filter counts l.lines)
