@@ -78,7 +78,7 @@ fn add_words<'a>(
 {
     let (mut rest, mut is_done) = (text, is_done);
     while !is_done {
-        let left = add_events(limits, rest, beats, events)?;
+        let left = add_run(limits, rest, beats, events)?;
         let Some(first) = first_beat(limits, left) else {
             let (line, rest) = split_line(left);
             add_beats(limits, line, beats, events)?;
@@ -93,6 +93,23 @@ fn add_words<'a>(
         return Err(LineAnswer::Cause(ScriptCause::TooMany));
     }
     Ok(rest)
+}
+
+/// Does as `add_events` where a word of two bytes stands at the front of a text, and nothing where a longer one does.
+#[inline(always)]
+fn add_run<'a>(
+    limits: Limits,
+    text: &'a [u8],
+    beats: &mut Beats,
+    events: &mut u64,
+) -> Result<&'a [u8], LineAnswer>
+    requires { Counted limits beats.old events.old }
+    ensures { MatchResult result (λ rest. AddsEvents limits text.now beats.old rest.now beats.new × Counted limits beats.new events.new) (λ answer. answer ≡ LineNoMemory) }
+{
+    match text {
+        [_, _, b' ', ..] => add_events(limits, text, beats, events),
+        _ => Ok(text),
+    }
 }
 
 /// Puts the beats of the words at the front of a text behind those of their load, as long as each is an event of two
