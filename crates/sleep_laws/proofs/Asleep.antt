@@ -1,6 +1,6 @@
 -- A machine that sleeps, and what a resume brings back.
-use Rattle.std.proofs.Common.{◌≡◌, ◌≢◌, ℕ, ◌+◌, ◌<◌, ◌≤◌, Bool, true, false, not, ◌&&◌, List, [], ◌∷◌, ◌++◌, filter, length, get_or, Option, Some, None, refl, sym, ap, ◌∙◌, subst, inl, inr, arith}
-use Rattle.std.specs.List.{All, range_with_len}
+use Rattle.std.proofs.Common.{◌≡◌, ◌≢◌, ℕ, ◌<◌, ◌≤◌, Bool, true, false, not, ◌&&◌, List, [], ◌∷◌, get_or, Option, Some, None, refl, sym, ap, ◌∙◌, subst, inl, inr, arith}
+use Rattle.std.specs.List.{All}
 use Rattle.std.specs.Option.{unwrap_or, is_some}
 use Rattle.std.proofs.lemmas.Bool.{true≢false, false≢true, cases_Bool, cases_lt}
 use Rattle.std.proofs.lemmas.List.{get_or-map}
@@ -12,7 +12,7 @@ use Rattle.machine_steps.specs.declared.states.Power.TheVariants as power
 use Rattle.machine_steps.specs.declared.states.ThreadState.{ThreadState}
 use Rattle.machine_steps.specs.declared.states.ThreadState.TheVariants.{Cold, Up, Offline}
 use Rattle.machine_steps.specs.declared.answers.HotAnswer.TheVariants as hot
-use Rattle.machine_steps.specs.Hardware.{Hardware, is_off, is_on, is_up, all_cold, with_power, suspended}
+use Rattle.machine_steps.specs.Hardware.{Hardware, is_on, is_up, with_power, suspended}
 use Rattle.machine_steps.specs.Calls as calls
 use Rattle.machine_steps.specs.BringUps.{CachedPatches, above, bring_up_each, remembered_threads}
 use Rattle.script_text.specs.declared.command.Command.{Command}
@@ -157,7 +157,8 @@ group_below : (setting : Setting) → IsPartition setting.machine.stated → (t 
 group_below setting partition t below =
     let core : ℕ = get_or setting.machine.stated.threads t 0 in
     let at : (machine_of setting).group t ≡ group_of (core_at setting.machine.stated.cores core) =
-    get_or-map (λ core. group_of (core_at setting.machine.stated.cores core)) setting.machine.stated.threads t 0 0 below in
+    get_or-map (λ core. group_of (core_at setting.machine.stated.cores core)) setting.machine.stated.threads t 0 0
+    below in
     subst (λ (g : ℕ). g < group_count setting.machine.stated.cores) (sym at)
     (partition.groups.in_groups core no_core (partition.groups.on_cores t 0 below))
 
@@ -241,7 +242,8 @@ module _ (law : EventLaw) (opens : OpeningIsLawful) (lends : LoadsLend) (opening
   slept =
       slept_to stay lists setting partition before resumes.suspending.after resumes.between resumes.between_dids asleep
       record {
-        stands = stay lists setting before command.Suspend resumes.suspending partition before_stands tt resumes.suspend;
+        stands =
+            stay lists setting before command.Suspend resumes.suspending partition before_stands tt resumes.suspend;
         sleeps = suspends_sleep lists setting before resumes.suspending resumes.suspend resumes.is_done;
       }
       resumes.between_in_range resumes.none_resumes resumes.slept

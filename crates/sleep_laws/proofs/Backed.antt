@@ -1,7 +1,7 @@
 -- No group runs more than it comes to at a power-up.
-use Rattle.std.proofs.Common.{◌≡◌, ℕ, ◌<◌, ◌≤◌, Bool, true, false, not, ◌==◌, List, [], ◌∷◌, Option, Some, None, Result, Ok, Err, refl, sym, ap, ◌∙◌, subst, inl, inr}
+use Rattle.std.proofs.Common.{◌≡◌, ℕ, ◌<◌, ◌≤◌, Bool, true, false, not, ◌==◌, List, [], ◌∷◌, Option, Some, None, Result, Ok, Err, refl, sym, subst, inl, inr}
 use Rattle.std.specs.List.{All}
-use Rattle.std.proofs.Math.Nat.{le_refl, le_trans}
+use Rattle.std.proofs.Math.Nat.{le_trans}
 use Rattle.std.proofs.lemmas.List.Elements.{All-head, All-tail}
 use Rattle.uc_topology.specs.Stated.{IsPartition}
 use Rattle.file_reads.specs.Reads.{Read}
@@ -100,7 +100,8 @@ module _ (setting : Setting) (g : ℕ) (within_groups : g < (machine_of setting)
     wake_low =
         unless (not (is_asleep state.hardware.power)) hot.NotAsleep (Ok (with_power state.hardware power.On)) backed
 
-    rise_low : (new : Hardware) (ts : List ℕ) → Low new → Low (bring_up_each (machine_of setting) (cached_patches state) new ts).after
+    rise_low : (new : Hardware) (ts : List ℕ) → Low new →
+        Low (bring_up_each (machine_of setting) (cached_patches state) new ts).after
     rise_low new ts low = within (machine_of setting) (cached_patches state) bios new g ts low
 
     online_low : (t : ℕ) (row : Result Hardware HotAnswer) → Each row → EachRise (online_from setting state t row)
@@ -152,7 +153,8 @@ module _ (setting : Setting) (g : ℕ) (within_groups : g < (machine_of setting)
       meets_backed : (answer : CommandAnswer) → Meets lists setting state force names beats did answer →
           Backed did.after
       meets_backed answer meets =
-          elim (load_leaves law opens lends lists setting state force names beats did answer stands meets g within_groups) [
+          elim (load_leaves law opens lends lists setting state force names beats did answer stands meets g
+          within_groups) [
             | inl new ↦ of_revision bios (did.after.hardware.rev g) (cached_patches did.after g) new.caches
             | inr old ↦
                 subst (λ (patch : Option (List ℕ)). did.after.hardware.rev g ≤ come_to bios patch) (sym old.caches)

@@ -1,5 +1,5 @@
 -- The groups none of whose threads was up at a suspend.
-use Rattle.std.proofs.Common.{◌≡◌, ◌≢◌, ℕ, ◌+◌, ◌<◌, ◌≤◌, Bool, true, false, not, ◌==◌, List, [], ◌∷◌, Option, Some, None, refl, sym, ap, ◌∙◌, subst, inl, inr, arith}
+use Rattle.std.proofs.Common.{◌≡◌, ◌≢◌, ℕ, ◌<◌, Bool, true, false, not, ◌==◌, List, [], ◌∷◌, refl, sym, ap, ◌∙◌, subst, inl, inr, arith}
 use Rattle.std.specs.List.{All}
 use Rattle.std.proofs.lemmas.Bool.{true≢false, false≢true, cases_Bool, cases_eq, not-false}
 use Rattle.std.proofs.lemmas.List.Elements.{All-head, All-tail}
@@ -30,10 +30,9 @@ use Rattle.session_laws.specs.Lent.{LoadsLend}
 use Rattle.session_laws.proofs.Parts.{warm_takes_part}
 use Rattle.session_runs.specs.SoFar.{StepsTo}
 use Rattle.sleep_laws.specs.PowerUp.{at_power_up}
-use Rattle.sleep_laws.specs.Sleep.{Resumes}
 use Rattle.sleep_laws.specs.Cold.{NoneUp, IsCold, Warms, NoneWarms, ColdGroupsCatchUp}
 use Rattle.sleep_laws.proofs.Coming.{come_to, AreOthers, are_others, cold_where, cold_by, cold_far, comes, others_leave, power_stays}
-use Rattle.sleep_laws.proofs.Loaded.{RunsOffer, IsAsBefore, SameButRevisions, load_leaves, machine_stays, no_offer}
+use Rattle.sleep_laws.proofs.Loaded.{IsAsBefore, SameButRevisions, load_leaves, machine_stays, no_offer}
 use Rattle.sleep_laws.proofs.Asleep.{up_is, asleep, woken, their, patches, resumed, resumed_is, slept, resume_of}
 
 -- power that is on is neither off nor asleep
@@ -277,14 +276,17 @@ module _ (setting : Setting) (before : State) (g : ℕ) (in_groups : g < (machin
       NoneWarms setting g commands dids → Lies after
   lies_to law opens lends stay partition lists state [] [] after stands lies in_range steps none =
       subst Lies (sym steps) lies
-  lies_to law opens lends stay partition lists state (one ∷ commands) (did ∷ dids) after stands lies in_range steps none =
+  lies_to law opens lends stay partition lists state (one ∷ commands) (did ∷ dids) after stands lies in_range steps
+      none =
       let here : InRange setting one = All-head (λ one. InRange setting one) one commands in_range in
       lies_to law opens lends stay partition lists did.after commands dids after
       (stay lists setting state one did partition stands here steps.0)
       (step_lies law opens lends lists state one did stands here lies steps.0 none.0)
       (All-tail (λ one. InRange setting one) one commands in_range) steps.2 none.1
-  lies_to law opens lends stay partition lists state [] (did ∷ dids) after stands lies in_range steps none = absurd steps
-  lies_to law opens lends stay partition lists state (one ∷ commands) [] after stands lies in_range steps none = absurd steps
+  lies_to law opens lends stay partition lists state [] (did ∷ dids) after stands lies in_range steps none =
+      absurd steps
+  lies_to law opens lends stay partition lists state (one ∷ commands) [] after stands lies in_range steps none =
+      absurd steps
 
   -- ---- the first of its threads that is brought online
 
@@ -344,8 +346,8 @@ cold_groups_catch_up law opens lends opening stay lists setting before was_aslee
     subst (Lies setting before g in_groups) (sym (resumed_is setting before refuses lists did resume))
     (lies_resumed setting before g in_groups refuses none) in
     let lies : Lies setting before g in_groups now =
-    lies_to setting before g in_groups law opens lends stay partition lists did.after later later_dids now stands at_first
-    in_range steps none_warms in (
+    lies_to setting before g in_groups law opens lends stay partition lists did.after later later_dids now stands
+    at_first in_range steps none_warms in (
       lies.group,
       λ t warmed step warms willing. warmed_by setting before g in_groups now lies t warmed
           (not (is_on now.hardware.power)) (is_up (now.hardware.thread t)) step warms.1 warms.0 willing,

@@ -1,10 +1,9 @@
 -- What groups come to while threads come up, one after the other.
-use Rattle.std.proofs.Common.{◌≡◌, ◌≢◌, ◌⊎◌, ℕ, zero, suc, ◌+◌, ◌<◌, ◌≤◌, Bool, true, false, not, ◌==◌, ◌&&◌, if◌then◌else◌, List, [], ◌∷◌, filter, Option, Some, None, option_map, refl, sym, ap, ◌∙◌, subst, inl, inr, arith}
+use Rattle.std.proofs.Common.{◌≡◌, ◌≢◌, ◌⊎◌, ℕ, zero, suc, ◌+◌, ◌<◌, ◌≤◌, Bool, true, false, ◌==◌, if◌then◌else◌, List, [], ◌∷◌, filter, Option, Some, None, option_map, refl, sym, ap, ◌∙◌, subst, inl, inr, arith}
 use Rattle.std.specs.List.{list_all, range_with_len}
 use Rattle.std.specs.Option.{unwrap_or}
-use Rattle.std.proofs.Math.Nat.{le_refl, le_trans}
+use Rattle.std.proofs.Math.Nat.{le_refl}
 use Rattle.std.proofs.lemmas.Bool.{cases_Bool, cases_eq, cases_lt, eq-eqb, ne_eqb, eqb-true, lt-ltb, le-ltb}
-use Rattle.machine_steps.specs.declared.states.Power.{Power}
 use Rattle.machine_steps.specs.declared.states.ThreadState.{ThreadState}
 use Rattle.machine_steps.specs.declared.states.ThreadState.TheVariants.{Cold, Up}
 use Rattle.machine_steps.specs.Hardware.{Setting, Hardware, is_cold, all_cold, threads_in, put, with_thread}
@@ -17,7 +16,8 @@ abbrev pub come_to : ℕ → Option (List ℕ) → ℕ
 come_to rev patch = unwrap_or (above rev patch) rev
 
 above_over : (rev : ℕ) (patch : List ℕ) → rev < revision patch → above rev (Some patch) ≡ Some (revision patch)
-above_over rev patch over = ap (λ (b : Bool). if b then Some (revision patch) else None) (lt-ltb rev (revision patch) over)
+above_over rev patch over =
+    ap (λ (b : Bool). if b then Some (revision patch) else None) (lt-ltb rev (revision patch) over)
 
 above_under : (rev : ℕ) (patch : List ℕ) → revision patch ≤ rev → above rev (Some patch) ≡ None
 above_under rev patch under =
@@ -335,7 +335,8 @@ module _ (setting : Setting) (patches : CachedPatches) where
   pub stays_up : (old : Hardware) (t : ℕ) (ts : List ℕ) → old.thread t ≡ Up → (after_each old ts).thread t ≡ Up
   stays_up old t [] up = up
   stays_up old t (u ∷ us) up =
-      stays_up (after old u) t us (ap (λ (thread : ℕ → ThreadState). thread t) (thread_after old u) ∙ elim (cases_eq t u) [
+      stays_up (after old u) t us
+      (ap (λ (thread : ℕ → ThreadState). thread t) (thread_after old u) ∙ elim (cases_eq t u) [
         | inl same ↦ ap (put old.thread u Up) same ∙ put_here old.thread u Up
         | inr far ↦ put_far old.thread u t Up far ∙ up
       ])

@@ -7,7 +7,6 @@ use Rattle.std.proofs.lemmas.List.FromFn.{get_or-map-range_with_len}
 use Rattle.std.proofs.lemmas.Option.{get_or_from_slice_get, none-some}
 use Rattle.uc_bytes.specs.Words.{word}
 use Rattle.file_entries.specs.Entry.{Entry, patch_entry}
-use Rattle.rendezvous_steps.specs.declared.items.Item.{Item}
 use Rattle.rendezvous_steps.specs.declared.ends.Beat.{Beat}
 use Rattle.rendezvous_steps.specs.Plan.{Plan, Sound}
 use Rattle.rendezvous_steps.specs.Padded.{Padded}
@@ -25,18 +24,18 @@ use Rattle.region_steps.proofs.Covered.{begins_no_patch}
 use Rattle.region_steps.proofs.Longest.{lowest_is_free}
 use Rattle.machine_steps.specs.Hardware.{Hardware}
 use Rattle.machine_steps.specs.BringUps.{revision}
-use Rattle.machine_steps.specs.Puts.{Puts, no_puts, with_patch, put_in_run, put_unless_there, put_offer, put_offers, first_of, patch_at, swept}
+use Rattle.machine_steps.specs.Puts.{Puts, no_puts, put_in_run, put_unless_there, put_offer, put_offers, first_of, patch_at, swept}
 use Rattle.session_text.specs.declared.answers.CommandAnswer.{CommandAnswer}
 use Rattle.session_steps.specs.State.{Setting, State, machine_of, cached_patches, takes_part}
 use Rattle.session_steps.specs.Offers.{entry_at, bytes_at, offer_of, put_revision, plan_of}
 use Rattle.session_steps.specs.Did.{Did, kept_where, cached_after, revision_after, loaded}
 use Rattle.session_steps.specs.Step.{Meets, met}
 use Rattle.session_laws.specs.Standing.{Standing}
-use Rattle.session_laws.specs.Lent.{IsLent, LoadsLend}
+use Rattle.session_laws.specs.Lent.{LoadsLend}
 use Rattle.session_laws.proofs.Parts.{load_offers}
 use Rattle.session_laws.proofs.Plans.{offer_in, rev0_in}
 use Rattle.session_laws.proofs.Stands.{cached_is, swept_stays}
-use Rattle.command_laws.proofs.Outcomes.{RanLeaves, ran_leaves}
+use Rattle.command_laws.proofs.Outcomes.{ran_leaves}
 
 -- ---- the patches that stood before it
 
@@ -277,7 +276,8 @@ module _ (law : EventLaw) (opens : OpeningIsLawful) (lends : LoadsLend) (lists :
       record {
         runs = is;
         caches =
-            ap (λ (place : Option ℕ). option_map revision (patch_at (swept groups cached meets.puts.patches) place)) here
+            ap (λ (place : Option ℕ). option_map revision (patch_at (swept groups cached meets.puts.patches) place))
+            here
             ∙ ap (option_map revision) (patch_stays groups cached meets.puts.patches g place below here)
             ∙ sym (offer_in setting state meets.puts meets.offers g below)
             ∙ is;
@@ -325,7 +325,9 @@ module _ (law : EventLaw) (opens : OpeningIsLawful) (lends : LoadsLend) (lists :
       by : (offer : Option ℕ) → offer_of meets.offers g ≡ offer → ⊥
       by None offered =
           let wrong : None ≡ Some rev =
-          sym (ap (put_revision meets.puts) offered) ∙ sym (offer_in setting state meets.puts meets.offers g below) ∙ is in
+          sym (ap (put_revision meets.puts) offered)
+          ∙ sym (offer_in setting state meets.puts meets.offers g below)
+          ∙ is in
           none-some rev wrong
       by (Some entry) offered =
           false≢true (sym none

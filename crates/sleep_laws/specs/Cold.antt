@@ -34,9 +34,9 @@ abbrev pub NoneWarms : Setting → ℕ → List Command → List Did → Type 0
 NoneWarms setting g (one ∷ commands) (did ∷ dids) = (Warms setting g one did → ⊥) × NoneWarms setting g commands dids
 NoneWarms setting g commands dids = Unit {0}
 
--- Whatever commands follow a resume, further suspends among them, such a group stays cold until an `online` of one of its
--- threads is done. That brings it to its revision at a power-up, with the patch that it cached before the suspend, where it
--- does not refuse at that moment.
+-- Whatever commands follow a resume, further suspends among them, such a group stays cold until an `online` of one of
+-- its threads is done. That brings it to its revision at a power-up, with the patch that it cached before the suspend,
+-- where it does not refuse at that moment.
 abbrev pub ColdGroupsCatchUp : Type 0
 ColdGroupsCatchUp =
     (lists : Bool) (setting : Setting) (before asleep : State) (did : Did) (g : ℕ) (later : List Command)

@@ -9,8 +9,8 @@ use Rattle.session_steps.specs.Did.{Did}
 use Rattle.session_laws.specs.Standing.{InRange}
 use Rattle.session_runs.specs.SoFar.{StepsTo}
 
--- The revision of a group once its first thread came up after a power-up: that of the patch that it caches, where that is
--- above the firmware's, and else the firmware's.
+-- The revision of a group once its first thread came up after a power-up: that of the patch that it caches, where that
+-- is above the firmware's, and else the firmware's.
 abbrev pub at_power_up : Setting → State → ℕ → ℕ
 at_power_up setting state g =
     unwrap_or (above ((machine_of setting).bios g) (cached_patches state g)) ((machine_of setting).bios g)
