@@ -4,6 +4,8 @@ ghost use Rattle.uc_io.specs.Faults.{Rose};
 ghost use Rattle.top_call.specs.declared.status.Status.TheVariants.{Done, NoMemory};
 ghost use Rattle.top_call.specs.Causes.{ReadCause, WriteCause};
 ghost use Rattle.top_call.specs.Written.{Written};
+ghost use Rattle.sleep_laws.specs.Cold.{ColdGroupsCatchUp};
+ghost use Rattle.sleep_laws.specs.Sleep.{ResumesBringBack};
 ghost use Rattle.tool_text.specs.Tool.{UsageCause};
 ghost use Rattle.tool_text.specs.Words.{PlayOf};
 ghost use Rattle.live_cli.specs.Able.{CanBeDone, AreInTime};
@@ -18,6 +20,7 @@ use command_laws::each_command_does_something;
 use ctl_core::Rendezvous;
 use play_laws::{a_patient_schedule_is_done, an_outcome_in_time_is_done};
 use round_laws::the_verdict_is_the_first_that_holds;
+use sleep_laws::a_resume_brings_back;
 use std::alloc::Global;
 use top_call::{Status, after_write};
 use uc_bytes::Text;
@@ -83,9 +86,12 @@ fn play_live<F: Files, S: Sink, R: Rendezvous>(
 /// `NoMemory` has its cause in the words or in a count of faults; `same` and `still`, that every name still holds what
 /// it held, and that files that told this still tell it. Two more are of each load in such a text: it is done where its
 /// rendezvous is not late and no group with an offer refuses, and it says that a thread halted or gave up only where
-/// its rendezvous is late. `done`, of files that tell and a rendezvous that lists no items: all is done, or memory ran
-/// out, where the files have a reading, the machine has few enough threads, each command finds what it needs, no
-/// rendezvous was late, and no count of faults rose.
+/// its rendezvous is late. `resumes` and `cold` are of each session that such a text may be of: a resume brings up
+/// every thread that was up before the suspend, and each group of such a thread has at least the revision that it
+/// had, where it refuses no write then; every other group stays cold, and gets its cached patch with the first of
+/// its threads that is brought online, where it does not refuse at that moment. `done`, of files that tell and a
+/// rendezvous that lists no items: all is done, or memory ran out, where the files have a reading, the machine has
+/// few enough threads, each command finds what it needs, no rendezvous was late, and no count of faults rose.
 pub fn run_live<F: Files, S: Sink, R: Rendezvous>(
     alloc: Global,
     words: &[Text],
@@ -110,12 +116,15 @@ pub fn run_live<F: Files, S: Sink, R: Rendezvous>(
     ensures most_stays { R.limit how.new ≡ R.limit how.old }
     ensures loads_in_time { LoadsInTime }
     ensures late_loads { LateLoads }
+    ensures resumes { ResumesBringBack }
+    ensures cold { ColdGroupsCatchUp }
     ensures done { R.lists ≡ false → F.tells files.old →
         CanBeDone (R.limit how.old) (live_asked words.now) (F.holds files.old) →
         AreInTime (R.runs how.old) (R.runs how.new) →
         (Rose (F.faults files.old) (F.faults files.new) → ⊥) → (Rose (S.faults out.old) (S.faults out.new) → ⊥) →
         (result ≡ Done) ⊎ (result ≡ NoMemory) }
 {
+    a_resume_brings_back();
     each_text_holds();
     an_outcome_in_time_is_done();
     a_patient_schedule_is_done();

@@ -3,6 +3,8 @@ ghost use Rattle.uc_io.specs.Faults.{Rose};
 ghost use Rattle.top_call.specs.declared.status.Status.TheVariants.{Done, NoMemory};
 ghost use Rattle.top_call.specs.Causes.{ReadCause, WriteCause};
 ghost use Rattle.top_call.specs.Written.{Written};
+ghost use Rattle.sleep_laws.specs.Cold.{ColdGroupsCatchUp};
+ghost use Rattle.sleep_laws.specs.Sleep.{ResumesBringBack};
 ghost use Rattle.tool_text.specs.Ends.{CausedText};
 ghost use Rattle.tool_text.specs.Headline.{HoldingText};
 ghost use Rattle.tool_text.specs.Tool.{AskedText, ToolText, FromReads, UsageCause, CanBeDone};
@@ -16,6 +18,7 @@ use crate::play::play;
 use crate::select::select;
 use crate::show::show;
 use crate::words::{Command, read_words};
+use sleep_laws::a_resume_brings_back;
 use std::alloc::Global;
 use tool_text::{done_where_it_can_be, each_text_has_its_cause, each_text_holds};
 use top_call::{Status, after_write};
@@ -45,19 +48,23 @@ fn run<F: Files, S: Sink>(alloc: Global, command: Command<'_>, files: &mut F, ou
 
 /// Does all that the program `ucode` does: `words` are those after the program's name.
 ///
-/// `written` says that the sink took a text of `ToolText`, for the bytes that were read, and the status is that text's;
-/// after a write fault or want of memory it took a front of one. Where the files tell what they hold, each read gave what
-/// its name holds. `headline` says of what that text shows to be done, for every set of files, topology, script and order
-/// of events: each update offered to a core is an accepted entry of highest admissible revision for it; from its write's
-/// begin until its primary's report no thread of that core runs ordinary code; no revision falls while power stays on; a
-/// dropped rendezvous changes no revision; and a reported success names only processors that hold their offered revision.
-/// `session` says that the text's status is `Short` exactly where some command was not done and none ended the session
-/// with a status of its own, and `Panicked` exactly where a thread halted in a load; `ends`, that only a session is short,
-/// and only in one a thread panics. The next clauses say that the other statuses but `Done`, `BadInput` and `NoMemory`
-/// have their cause in the words or in a count of faults; `same` and `still`, that every name still holds what it held,
-/// and that files that told this still tell it. `done`, of files that tell: all is done, or memory ran out, where every
-/// file has a reading, a number is that of an entry, each command of a session finds what it needs, and no count of
-/// faults rose.
+/// `written` says that the sink took a text of `ToolText`, for the bytes that were read, and the status is that
+/// text's; after a write fault or want of memory it took a front of one. Where the files tell what they hold, each
+/// read gave what its name holds. `headline` says of what that text shows to be done, for every set of files,
+/// topology, script and order of events: each update offered to a core is an accepted entry of highest admissible
+/// revision for it; from its write's begin until its primary's report no thread of that core runs ordinary code; no
+/// revision falls while power stays on; a dropped rendezvous changes no revision; and a reported success names only
+/// processors that hold their offered revision. `session` says that the text's status is `Short` exactly where some
+/// command was not done and none ended the session with a status of its own, and `Panicked` exactly where a thread
+/// halted in a load; `ends`, that only a session is short, and only in one a thread panics. The next clauses say that
+/// the other statuses but `Done`, `BadInput` and `NoMemory` have their cause in the words or in a count of faults;
+/// `same` and `still`, that every name still holds what it held, and that files that told this still tell it.
+/// `resumes` and `cold` are of each session that such a text may be of: a resume brings up every thread that was up
+/// before the suspend, and each group of such a thread has at least the revision that it had, where it refuses no
+/// write then; every other group stays cold, and gets its cached patch with the first of its threads that is brought
+/// online, where it does not refuse at that moment. `done`, of files that tell: all is done, or memory ran out, where
+/// every file has a reading, a number is that of an entry, each command of a session finds what it needs, and no
+/// count of faults rose.
 pub fn run_tool<F: Files, S: Sink>(
     alloc: Global,
     words: &[Text],
@@ -74,8 +81,11 @@ pub fn run_tool<F: Files, S: Sink>(
     ensures same { F.holds files.new ≡ F.holds files.old }
     ensures still { F.tells files.old → F.tells files.new }
     ensures later { F.faults files.old ≤ F.faults files.new }
+    ensures resumes { ResumesBringBack }
+    ensures cold { ColdGroupsCatchUp }
     ensures done { F.tells files.old → CanBeDone (asked words.now) (F.holds files.old) → (Rose (F.faults files.old) (F.faults files.new) → ⊥) → (Rose (S.faults out.old) (S.faults out.new) → ⊥) → (result ≡ Done) ⊎ (result ≡ NoMemory) }
 {
+    a_resume_brings_back();
     each_text_holds();
     each_text_has_its_cause();
     done_where_it_can_be();

@@ -70,3 +70,15 @@ returns-in-Err-clause-done g c = λ silent tell can timely no_read no_write.
     absurd
     (subst (λ (line : Asked). CanBeDone (g.R.Rendezvous.limit c.args.how.now) line (g.F.Files.holds c.args.files.now))
     c.in-Err.ensures can)
+
+pub returns-in-Ok-clause-resumes : goal.returns-in-Ok-clause-resumes
+returns-in-Ok-clause-resumes g c = c.a_resume_brings_back.ensures.resume
+
+pub returns-in-Ok-clause-cold : goal.returns-in-Ok-clause-cold
+returns-in-Ok-clause-cold g c = c.a_resume_brings_back.ensures.cold
+
+pub returns-in-Err-clause-resumes : goal.returns-in-Err-clause-resumes
+returns-in-Err-clause-resumes g c = c.a_resume_brings_back.ensures.resume
+
+pub returns-in-Err-clause-cold : goal.returns-in-Err-clause-cold
+returns-in-Err-clause-cold g c = c.a_resume_brings_back.ensures.cold

@@ -71,3 +71,15 @@ pub returns-in-Err-clause-session : goal.returns-in-Err-clause-session
 returns-in-Err-clause-session g c =
     caused c.each_text_has_its_cause.ensures (g.F.Pieces.tells c.args.files.now) (g.F.Files.holds c.args.files.now) _
     g.S.Sink.stands _ _ _ _ (returns-in-Err-clause-written g c)
+
+pub returns-in-Ok-clause-resumes : goal.returns-in-Ok-clause-resumes
+returns-in-Ok-clause-resumes g c = c.a_resume_brings_back.ensures.resume
+
+pub returns-in-Ok-clause-cold : goal.returns-in-Ok-clause-cold
+returns-in-Ok-clause-cold g c = c.a_resume_brings_back.ensures.cold
+
+pub returns-in-Err-clause-resumes : goal.returns-in-Err-clause-resumes
+returns-in-Err-clause-resumes g c = c.a_resume_brings_back.ensures.resume
+
+pub returns-in-Err-clause-cold : goal.returns-in-Err-clause-cold
+returns-in-Err-clause-cold g c = c.a_resume_brings_back.ensures.cold
