@@ -1,30 +1,10 @@
-ghost use Rattle.std.specs.Prelude.{◌≤◌, IfOk, vec_len};
-
 use super::*;
 use hw_machine::Machine;
 use patch_pool::{PatchId, PatchPool};
-use std::alloc::{AllocError, Global};
 use std::test::Fail;
 use uc_catalog::Catalog;
 use uc_topology::read_topology;
-
-/// One core with two threads.
-const T2: &[u8] = b"ucode-topology 1\nvendor intel\ncore 0 sig 0x906ea flags 0x2 rev 0xb4\n\
-cpu 0 core 0\ncpu 1 core 0\n";
-
-/// An update of 2,048 bytes without sizes in its header, with this revision and checksum.
-fn update(alloc: Global, rev: u32, checksum: u32) -> Result<Vec<u8>, AllocError>
-    ensures { IfOk result (λ bytes. vec_len bytes ≤ 67108864) }
-{
-    let mut bytes = Vec::with_capacity(alloc, 2048)?;
-    for word in [1u32, rev, 0x0711_2023, 0x906ea, checksum, 1, 2] {
-        for byte in word.to_le_bytes() {
-            bytes.push(byte)?;
-        }
-    }
-    bytes.resize(2048, 0)?;
-    Ok(bytes)
-}
+use update_samples::{TWO_THREADS, update_without_sizes};
 
 /// How many blocks in a row an entry wants that does not fit; none where it fits, or there is no such entry.
 fn blocks_wanted(catalog: &Catalog, entry: u32, pool: &mut PatchPool) -> Option<u32> {
@@ -39,13 +19,13 @@ fn blocks_wanted(catalog: &Catalog, entry: u32, pool: &mut PatchPool) -> Option<
 
 #[test]
 fn the_first_thread_of_a_group_writes_again_after_a_resume(rt: HostRuntime) -> Result<(), Fail> {
-    let Ok(topology) = read_topology(T2) else {
+    let Ok(topology) = read_topology(TWO_THREADS.as_bytes()) else {
         return Err(Fail::from("no topology"));
     };
     let alloc = rt.alloc();
     let mut catalog = Catalog::new(alloc);
-    let first = update(alloc, 0xf0, 0xf8e5_d7ff)?;
-    let second = update(alloc, 0xf4, 0xf8e5_d7fb)?;
+    let first = update_without_sizes(alloc, 0xf0)?;
+    let second = update_without_sizes(alloc, 0xf4)?;
     if catalog.add(first).is_err() {
         return Err(Fail::from("no first update"));
     }

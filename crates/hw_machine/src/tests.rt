@@ -2,10 +2,7 @@ use super::*;
 use std::process::Abort;
 use std::test::Fail;
 use uc_topology::read_topology;
-
-/// One core with two threads.
-const T2: &[u8] = b"ucode-topology 1\nvendor intel\ncore 0 sig 0x906ea flags 0x2 rev 0xb4\n\
-cpu 0 core 0\ncpu 1 core 0\n";
+use update_samples::TWO_THREADS;
 
 /// A call as a script states it.
 #[derive(Clone, Copy, Debug)]
@@ -64,7 +61,7 @@ fn online(
 
 #[test]
 fn each_call_answers_its_first_refusal(rt: HostRuntime) -> Result<(), Fail> {
-    let Ok(topology) = read_topology(T2) else {
+    let Ok(topology) = read_topology(TWO_THREADS.as_bytes()) else {
         return Err(Fail::from("no topology"));
     };
     let mut machine = Machine::new(&topology);
@@ -102,7 +99,7 @@ fn each_call_answers_its_first_refusal(rt: HostRuntime) -> Result<(), Fail> {
 
 #[test]
 fn a_revision_stands_until_power_down(rt: HostRuntime) -> Result<(), Fail> {
-    let Ok(topology) = read_topology(T2) else {
+    let Ok(topology) = read_topology(TWO_THREADS.as_bytes()) else {
         return Err(Fail::from("no topology"));
     };
     let mut machine = Machine::new(&topology);

@@ -9,34 +9,21 @@ use hw_machine::Power;
 use patch_pool::PatchId;
 use rendezvous_steps::Kind;
 use session_laws::each_state_stands;
-use std::alloc::{AllocError, Global};
+use std::alloc::Global;
 use std::test::Fail;
 use uc_catalog::Catalog;
 use uc_topology::{Topology, read_topology};
-
-/// One core with two threads.
-const T2: &[u8] = b"ucode-topology 1\nvendor intel\ncore 0 sig 0x906ea flags 0x2 rev 0xb4\n\
-cpu 0 core 0\ncpu 1 core 0\n";
+use update_samples::{ONE_PACKAGE, TWO_THREADS, update_without_sizes};
 
 /// Two cores with two threads each.
-const T4: &[u8] = b"ucode-topology 1\nvendor intel\n\
+const T4: &str = "ucode-topology 1\nvendor intel\n\
 core 0 sig 0x906ea flags 0x2 rev 0xb4\ncore 1 sig 0x906ea flags 0x2 rev 0xb4\n\
-cpu 0 core 0\ncpu 1 core 0\ncpu 2 core 1\ncpu 3 core 1\n";
-
-/// Two cores of one package, with two threads each.
-const P1: &[u8] = b"ucode-topology 2\nvendor intel\n\
-core 0 package 0 sig 0x906ea flags 0x2 rev 0xb4\ncore 1 package 0 sig 0x906ea flags 0x2 rev 0xb4\n\
 cpu 0 core 0\ncpu 1 core 0\ncpu 2 core 1\ncpu 3 core 1\n";
 
 /// A catalogue of one update of 2,048 bytes with revision 0xf0.
 fn one_file(alloc: Global) -> Result<Catalog, Fail> {
-    let mut bytes = Vec::with_capacity(alloc, 2048)?;
-    for word in [1u32, 0xf0, 0x0711_2023, 0x906ea, 0xf8e5_d7ff, 1, 2] {
-        bytes.extend_from_slice(&word.to_le_bytes())?;
-    }
-    bytes.resize(2048, 0)?;
     let mut catalog = Catalog::new(alloc);
-    if catalog.files() < 16 && bytes.len() <= 67_108_864 && catalog.add(bytes).is_ok() {
+    if catalog.add(update_without_sizes(alloc, 0xf0)?).is_ok() {
         return Ok(catalog);
     }
     Err(Fail::from("the file is refused"))
@@ -106,7 +93,7 @@ fn standing(parts: &Parts, g: u16) -> Option<(u32, Option<PatchId>, u32)> {
 #[test]
 fn a_load_keeps_the_patch_that_was_written(rt: HostRuntime) -> Result<(), Fail> {
     let alloc = rt.alloc();
-    let Ok(topology) = read_topology(T4) else {
+    let Ok(topology) = read_topology(T4.as_bytes()) else {
         return Err(Fail::from("no topology"));
     };
     let catalog = one_file(alloc)?;
@@ -140,7 +127,7 @@ fn a_load_keeps_the_patch_that_was_written(rt: HostRuntime) -> Result<(), Fail> 
 #[test]
 fn what_was_not_written_is_freed(rt: HostRuntime) -> Result<(), Fail> {
     let alloc = rt.alloc();
-    let Ok(topology) = read_topology(P1) else {
+    let Ok(topology) = read_topology(ONE_PACKAGE.as_bytes()) else {
         return Err(Fail::from("no topology"));
     };
     let catalog = one_file(alloc)?;
@@ -166,15 +153,15 @@ fn offline(parts: &mut Parts, t: u16) -> bool {
 #[test]
 fn a_load_wants_primaries_and_the_lowest_threads_of_cores(rt: HostRuntime) -> Result<(), Fail> {
     let alloc = rt.alloc();
-    let cases: [(&[u8], &[u16], Option<u16>); 5] = [
-        (T2, &[], None),
-        (T2, &[1], None),
+    let cases: [(&str, &[u16], Option<u16>); 5] = [
+        (TWO_THREADS, &[], None),
+        (TWO_THREADS, &[1], None),
         (T4, &[3, 1], None),
         (T4, &[3, 2], Some(2)),
-        (P1, &[2], Some(2)),
+        (ONE_PACKAGE, &[2], Some(2)),
     ];
     for (text, down, missing) in &cases {
-        let Ok(topology) = read_topology(*text) else {
+        let Ok(topology) = read_topology(text.as_bytes()) else {
             return Err(Fail::from("no topology"));
         };
         let mut parts = booted(alloc, &topology, &Catalog::new(alloc), 4)?;

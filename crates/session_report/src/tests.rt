@@ -7,12 +7,13 @@ use machine_steps::{BringUp, HotAnswer, Written};
 use rendezvous_steps::{End, Kind, ThreadResult};
 use script_text::{Beats, Command, Names};
 use session_text::{CommandAnswer, LoadAnswer};
-use std::alloc::{AllocError, Global};
+use std::alloc::Global;
 use std::test::Fail;
 use uc_bytes::{FileCause, FileFault, Text};
 use uc_catalog::Catalog;
 use uc_io::{MemSink, SinkFailed};
 use uc_topology::{Topology, read_topology};
+use update_samples::{ONE_PACKAGE, SMALL, SmallUpdate, push_update};
 
 /// Room for each text of these tests.
 const ROOM: usize = 4_096;
@@ -137,13 +138,8 @@ fn each_answer_has_its_line(rt: HostRuntime) -> Result<(), Fail> {
 }
 
 /// Two cores with two threads each, the second core at 0xf0.
-const T4: &[u8] = b"ucode-topology 1\nvendor intel\n\
+const T4: &str = "ucode-topology 1\nvendor intel\n\
 core 0 sig 0x906ea flags 0x2 rev 0xb4\ncore 1 sig 0x906ea flags 0x2 rev 0xf0\n\
-cpu 0 core 0\ncpu 1 core 0\ncpu 2 core 1\ncpu 3 core 1\n";
-
-/// Two cores of one package, with two threads each.
-const P1: &[u8] = b"ucode-topology 2\nvendor intel\n\
-core 0 package 0 sig 0x906ea flags 0x2 rev 0xb4\ncore 1 package 0 sig 0x906ea flags 0x2 rev 0xb4\n\
 cpu 0 core 0\ncpu 1 core 0\ncpu 2 core 1\ncpu 3 core 1\n";
 
 /// A plan of threads with their groups, and of groups with their revisions. No group has an offer, and none refuses.
@@ -174,21 +170,10 @@ fn plan_with(threads: &[(Kind, u16)], revs: &[u32]) -> Plan {
     plan
 }
 
-fn push_words(bytes: &mut Vec<u8>, words: &[u32]) -> Result<(), AllocError> {
-    for word in words {
-        bytes.extend_from_slice(&word.to_le_bytes())?;
-    }
-    Ok(())
-}
-
-/// A catalogue of one update of 64 bytes with this checksum and minimum revision.
-fn one_file(alloc: Global, checksum: u32, min: u32) -> Result<Catalog, Fail> {
+/// A catalogue of one update of 64 bytes with this minimum revision.
+fn one_file(alloc: Global, min: u32) -> Result<Catalog, Fail> {
     let mut bytes = Vec::new(alloc);
-    push_words(
-        &mut bytes,
-        &[1, 0xf0, 0x0711_2023, 0x0009_06ea, checksum, 1],
-    )?;
-    push_words(&mut bytes, &[2, 16, 64, 0, min, 0, 0, 0, 0, 0])?;
+    push_update(&mut bytes, &SmallUpdate { min, ..SMALL })?;
     let mut catalog = Catalog::new(alloc);
     if catalog.files() < 16 && bytes.len() <= 67_108_864 && catalog.add(bytes).is_ok() {
         return Ok(catalog);
@@ -223,11 +208,10 @@ fn put_offers(
 #[test]
 fn each_core_of_an_offered_group_has_a_line(rt: HostRuntime) -> Result<(), Fail> {
     let alloc = rt.alloc();
-    let cases: [(&[u8], &[u32], u32, u32, &[Option<u32>], &str); 3] = [
+    let cases: [(&str, &[u32], u32, &[Option<u32>], &str); 3] = [
         (
             T4,
             &[0xb4, 0xf0],
-            0xf8e5_d7af,
             0,
             &[Some(0), None],
             "offer core 0 entry 0 len 64 rev 0x000000f0\n",
@@ -235,25 +219,23 @@ fn each_core_of_an_offered_group_has_a_line(rt: HostRuntime) -> Result<(), Fail>
         (
             T4,
             &[0xb3, 0xb4],
-            0xf8e5_d6fb,
             0xb4,
             &[None, Some(0)],
             "offer core 1 entry 0 len 64 rev 0x000000f0 safe\n",
         ),
         (
-            P1,
+            ONE_PACKAGE,
             &[0xb4],
-            0xf8e5_d6fa,
             0xb5,
             &[Some(0)],
             "offer core 0 entry 0 len 64 rev 0x000000f0\noffer core 1 entry 0 len 64 rev 0x000000f0\n",
         ),
     ];
-    for (text, revs, checksum, min, offers, lines) in &cases {
-        let Ok(topology) = read_topology(*text) else {
+    for (text, revs, min, offers, lines) in &cases {
+        let Ok(topology) = read_topology(text.as_bytes()) else {
             return Err(Fail::from("no topology"));
         };
-        let catalog = one_file(alloc, *checksum, *min)?;
+        let catalog = one_file(alloc, *min)?;
         let plan = plan_with(&[], *revs);
         let mut out = MemSink::new(alloc, ROOM)?;
         assert!(rt; put_offers(&mut out, &topology, &plan, &catalog, *offers).is_ok());
@@ -282,7 +264,7 @@ const ERROR: End = End::Left(ThreadResult::Error);
 #[test]
 fn who_takes_part_has_a_line(rt: HostRuntime) -> Result<(), Fail> {
     let online = (Kind::Online, 0);
-    let cases: [(&[u8], &[(Kind, u16)], &[End], &[u32], &str); 4] = [
+    let cases: [(&str, &[(Kind, u16)], &[End], &[u32], &str); 4] = [
         (
             T4,
             &[online, online, (Kind::Online, 1), (Kind::Online, 1)],
@@ -313,7 +295,7 @@ fn who_takes_part_has_a_line(rt: HostRuntime) -> Result<(), Fail> {
             "cpu 0 timeout\ncpu 1 withdrawn\ncore 0 rev 0x000000b4\n",
         ),
         (
-            P1,
+            ONE_PACKAGE,
             &[
                 online,
                 (Kind::Absent, 0),
@@ -330,7 +312,7 @@ fn who_takes_part_has_a_line(rt: HostRuntime) -> Result<(), Fail> {
             "cpu 0 current\ncpu 3 offline\ncore 0 rev 0x000000f0\ncore 1 rev 0x000000f0\n",
         ),
         (
-            P1,
+            ONE_PACKAGE,
             &[online, online, online, online],
             &[End::Halted, End::Unfinished, End::Unfinished, End::Halted],
             &[0xffff_ffff],
@@ -338,7 +320,7 @@ fn who_takes_part_has_a_line(rt: HostRuntime) -> Result<(), Fail> {
         ),
     ];
     for (text, threads, ends, revs, lines) in &cases {
-        let Ok(topology) = read_topology(*text) else {
+        let Ok(topology) = read_topology(text.as_bytes()) else {
             return Err(Fail::from("no topology"));
         };
         let plan = plan_with(*threads, *revs);
@@ -351,7 +333,7 @@ fn who_takes_part_has_a_line(rt: HostRuntime) -> Result<(), Fail> {
 
 #[test]
 fn each_line_of_a_load_is_one_write(rt: HostRuntime) -> Result<(), Fail> {
-    let Ok(topology) = read_topology(P1) else {
+    let Ok(topology) = read_topology(ONE_PACKAGE.as_bytes()) else {
         return Err(Fail::from("no topology"));
     };
     let plan = plan_with(&[(Kind::Online, 0); 4], &[0xb4]);

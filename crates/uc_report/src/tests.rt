@@ -7,45 +7,10 @@ use uc_bytes::{FileCause, FileFault, Text};
 use uc_catalog::Catalog;
 use uc_io::{MemSink, SinkFailed};
 use uc_topology::{TopoCause, TopoFault, Topology, read_topology};
+use update_samples::{SMALL, SmallUpdate, WITH_TABLE, bytes_of, push_update, two_containers};
 
 /// Room for each text of these tests.
 const ROOM: usize = 4_096;
-
-/// An update of 64 bytes for signature 0x906ea and flags 2, of 2023-07-11, with data of zeros.
-fn push_update(
-    bytes: &mut Vec<u8>,
-    rev: u32,
-    cksum: u32,
-    total: u32,
-    min: u32,
-) -> Result<(), AllocError> {
-    let words = [
-        1,
-        rev,
-        0x0711_2023,
-        0x0009_06ea,
-        cksum,
-        1,
-        2,
-        16,
-        total,
-        0,
-        min,
-        0,
-        0,
-        0,
-        0,
-        0,
-    ];
-    push_words(bytes, &words)
-}
-
-fn push_words(bytes: &mut Vec<u8>, words: &[u32]) -> Result<(), AllocError> {
-    for word in words {
-        bytes.extend_from_slice(&word.to_le_bytes())?;
-    }
-    Ok(())
-}
 
 /// Adds a file; every file here is short enough, and there are few.
 fn add(catalog: &mut Catalog, bytes: Vec<u8>) -> Result<(), Fail> {
@@ -57,30 +22,16 @@ fn add(catalog: &mut Catalog, bytes: Vec<u8>) -> Result<(), Fail> {
 
 /// An update with a table for two pairs; one of a minimum; and two updates in one file.
 fn three_files(alloc: Global) -> Result<Catalog, Fail> {
-    let mut table = Vec::new(alloc);
-    push_update(&mut table, 0xf0, 0xf8e5_d783, 108, 0)?;
-    push_words(&mut table, &[2, 0x0e22_4320, 0, 0, 0])?;
-    push_words(&mut table, &[0x0009_06eb, 2, 0xf8e5_d782])?;
-    push_words(&mut table, &[0x0009_06ec, 0x22, 0xf8e5_d761])?;
     let mut least = Vec::new(alloc);
-    push_update(&mut least, 0xf0, 0xf8e5_d6fb, 64, 0xb4)?;
+    push_update(&mut least, &SmallUpdate { min: 0xb4, ..SMALL })?;
     let mut two = Vec::new(alloc);
-    push_update(&mut two, 0xf0, 0xf8e5_d7af, 64, 0)?;
-    push_update(&mut two, 0xf4, 0xf8e5_d7ab, 64, 0)?;
+    push_update(&mut two, &SMALL)?;
+    push_update(&mut two, &SmallUpdate { rev: 0xf4, ..SMALL })?;
     let mut catalog = Catalog::new(alloc);
-    add(&mut catalog, table)?;
+    add(&mut catalog, bytes_of(alloc, &WITH_TABLE)?)?;
     add(&mut catalog, least)?;
     add(&mut catalog, two)?;
     Ok(catalog)
-}
-
-/// A container of one row for a signature, a row of zeros and one patch of 64 bytes.
-fn push_container(bytes: &mut Vec<u8>, sig: u32, rev: u32) -> Result<(), AllocError> {
-    push_words(bytes, &[0x0041_4d44, 0, 32])?;
-    push_words(bytes, &[sig, 0, 0, 0xa210])?;
-    push_words(bytes, &[0; 4])?;
-    push_words(bytes, &[1, 64, 0, rev, 0, 0, 0, 0, 0xa210])?;
-    push_words(bytes, &[0; 9])
 }
 
 const LISTING: &str = "file 0 x.bin intel 1
@@ -138,7 +89,7 @@ fn a_list_numbers_entries_over_all_files(rt: HostRuntime) -> Result<(), Fail> {
 /// The update A of revision 0xf0.
 fn one_file(alloc: Global) -> Result<Catalog, Fail> {
     let mut file = Vec::new(alloc);
-    push_update(&mut file, 0xf0, 0xf8e5_d7af, 64, 0)?;
+    push_update(&mut file, &SMALL)?;
     let mut catalog = Catalog::new(alloc);
     add(&mut catalog, file)?;
     Ok(catalog)
@@ -254,11 +205,8 @@ core 1 rev 0x0a201000 offer 1 rev 0x0a201210
 
 #[test]
 fn patches_are_listed_and_offered(rt: HostRuntime) -> Result<(), Fail> {
-    let mut file = Vec::new(rt.alloc());
-    push_container(&mut file, 0x00a2_0f10, 0x0a20_102b)?;
-    push_container(&mut file, 0x00a2_0f12, 0x0a20_1210)?;
     let mut catalog = Catalog::new(rt.alloc());
-    add(&mut catalog, file)?;
+    add(&mut catalog, two_containers(rt.alloc())?)?;
     let names = names(rt.alloc(), "z.bin")?;
     let Ok(topology) = read_topology(AMD_MACHINE) else {
         return Err(Fail::from("no topology"));

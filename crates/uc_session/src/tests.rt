@@ -4,37 +4,24 @@ use patch_pool::PatchId;
 use rendezvous_steps::Beat;
 use script_text::{Beats, Command, Names};
 use session_text::{CommandAnswer, Played};
-use std::alloc::{AllocError, Global};
 use std::test::Fail;
 use uc_bytes::Text;
 use uc_io::{MemFiles, MemSink};
 use uc_topology::read_topology;
-
-/// One core with two threads.
-const T2: &[u8] = b"ucode-topology 1\nvendor intel\ncore 0 sig 0x906ea flags 0x2 rev 0xb4\n\
-cpu 0 core 0\ncpu 1 core 0\n";
-
-/// An update of 64 bytes of revision 0xf0.
-fn update(alloc: Global) -> Result<Vec<u8>, AllocError> {
-    let mut bytes = Vec::with_capacity(alloc, 64)?;
-    for word in [1u32, 0xf0, 0x0711_2023, 0x906ea, 0xf8e5_d7af, 1, 2, 16, 64] {
-        bytes.extend_from_slice(&word.to_le_bytes())?;
-    }
-    bytes.resize(64, 0)?;
-    Ok(bytes)
-}
+use update_samples::{SMALL, TWO_THREADS, push_update};
 
 #[test]
 fn the_region_holds_what_a_load_wrote(rt: HostRuntime) -> Result<(), Fail> {
     let alloc = rt.alloc();
-    let Ok(topology) = read_topology(T2) else {
+    let Ok(topology) = read_topology(TWO_THREADS.as_bytes()) else {
         return Err(Fail::from("no topology"));
     };
     assert!(rt; topology.threads() == 2 && topology.groups() == 1);
     let Ok(mut session) = Session::new(alloc, &topology, 4_096, 10) else {
         return Err(Fail::from("no session"));
     };
-    let bytes = update(alloc)?;
+    let mut bytes = Vec::new(alloc);
+    push_update(&mut bytes, &SMALL)?;
     let mut files = MemFiles::new(alloc);
     files.put("a.bin", bytes.as_slice())?;
     let mut out = MemSink::new(alloc, 4_096)?;

@@ -166,7 +166,7 @@ fn comes_to<R: Threads + Wait>(
 ) -> Result<bool, Fail> {
     let script = format!(in alloc; "ucode-script 1\npatience {patience}\nboot\nload a.bin\nend\n")?;
     let text = format!(in alloc; "{BOOTED}{results}")?;
-    let mut files = files_of(alloc, T2, script.as_str())?;
+    let mut files = files_of(alloc, TWO_THREADS, script.as_str())?;
     let mut out = MemSink::new(alloc, ROOM)?;
     let stage = Stage::new(holds);
     let found = status_at(rt, alloc, &stage, &mut files, &mut out)?;

@@ -1,6 +1,7 @@
 use super::*;
 use std::sync::Wait;
 use std::thread::Threads;
+use update_samples::{ONE_PACKAGE, ONE_THREAD, large_update};
 
 /// Looks what the program answers to these words, a topology as `t` and a script as `s`.
 fn answers<R: Threads + Wait>(
@@ -31,7 +32,15 @@ fn takes_the_names_of_a_topology_and_a_script(rt: HostRuntime) -> Result<(), Fai
     ];
     for (line, index, text) in &table {
         assert!(rt;
-            answers(&rt, rt.alloc(), line, T1, "", Status::Usage(*index), text)?,
+            answers(
+                &rt,
+                rt.alloc(),
+                line,
+                ONE_THREAD,
+                "",
+                Status::Usage(*index),
+                text
+            )?,
             "{line}"
         );
     }
@@ -42,8 +51,13 @@ fn takes_the_names_of_a_topology_and_a_script(rt: HostRuntime) -> Result<(), Fai
 fn reads_the_topology_before_the_script(rt: HostRuntime) -> Result<(), Fail> {
     let many = single_cores(rt.alloc(), 33)?;
     let table = [
-        ("none none", T1, Status::ReadFault, "error read none\n"),
-        ("t none", T1, Status::ReadFault, "error read none\n"),
+        (
+            "none none",
+            ONE_THREAD,
+            Status::ReadFault,
+            "error read none\n",
+        ),
+        ("t none", ONE_THREAD, Status::ReadFault, "error read none\n"),
         (
             "t none",
             "",
@@ -56,7 +70,12 @@ fn reads_the_topology_before_the_script(rt: HostRuntime) -> Result<(), Fail> {
             Status::BadInput,
             "error topology line 0 live-limit\n",
         ),
-        ("t s", T1, Status::BadInput, "error script line 0 head\n"),
+        (
+            "t s",
+            ONE_THREAD,
+            Status::BadInput,
+            "error script line 0 head\n",
+        ),
     ];
     for (line, topology, status, text) in &table {
         assert!(rt;
@@ -71,7 +90,7 @@ fn reads_the_topology_before_the_script(rt: HostRuntime) -> Result<(), Fail> {
 fn loads_what_it_is_offered(rt: HostRuntime) -> Result<(), Fail> {
     let table = [
         (
-            T1,
+            ONE_THREAD,
             "ucode-script 1\npatience 0\nboot\nload a.bin\nend\n",
             "command 1 boot
 up 0 rev 0x000000b4
@@ -84,7 +103,7 @@ answer done
 ",
         ),
         (
-            T2,
+            TWO_THREADS,
             "ucode-script 1\npatience 4294967295\nboot\noffline 1\nload a.bin\nend\n",
             "command 1 boot
 up 0 rev 0x000000b4
@@ -101,7 +120,7 @@ answer done
 ",
         ),
         (
-            P1,
+            ONE_PACKAGE,
             "ucode-script 1\npatience 4294967295\nboot\nload a.bin\nend\n",
             "command 1 boot
 up 0 rev 0x000000b4
@@ -164,7 +183,7 @@ answer done
 ";
     let mut failed = 0;
     for call in 1..=9 {
-        let mut files = files_of(alloc, T1, script)?;
+        let mut files = files_of(alloc, ONE_THREAD, script)?;
         let words = words_of(alloc, "t s")?;
         let mut out = MemSink::new(alloc, ROOM)?;
         out.fail_at(call);
@@ -236,27 +255,8 @@ fn loads_a_large_update_once(rt: HostRuntime) -> Result<(), Fail> {
     let alloc = rt.alloc();
     let script =
         "ucode-script 1\npatience 4294967295\nboot\nload r.bin\n*168\nend\nload r.bin\n*168\nend\n";
-    let header = [
-        1u32,
-        0xf0,
-        0x0711_2023,
-        0x0009_06ea,
-        0xf8e2_b82f,
-        1,
-        2,
-        102_352,
-        102_400,
-        0,
-        0,
-        0,
-    ];
-    let mut update = Vec::new(alloc);
-    for word in &header {
-        update.extend_from_slice(&word.to_le_bytes())?;
-    }
-    update.resize(102_400, 0)?;
     let mut files = files_of(alloc, T8, script)?;
-    files.put("r.bin", update.as_slice())?;
+    files.put("r.bin", large_update(alloc)?.as_slice())?;
     let words = words_of(alloc, "t s")?;
     let mut out = MemSink::new(alloc, ROOM)?;
     let mut live = LiveRun::new(&rt, alloc, &OpenGate);

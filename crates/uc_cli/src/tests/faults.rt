@@ -1,10 +1,18 @@
 use super::*;
+use update_samples::{SECTION, Section, push_head, push_section};
 
 /// A container for family 14h with a patch of a length, for a chipset device where `device` is not 0.
 fn bounded(alloc: Global, length: u32, device: u32) -> Result<Vec<u8>, AllocError> {
     let mut bytes = Vec::new(alloc);
-    push_equiv(&mut bytes, 16, 0x0050_0f10, 0x5000)?;
-    push_section(&mut bytes, 1, 0x0500_0001, 0x5000, device, length)?;
+    push_head(&mut bytes, 16, 0x0050_0f10, 0x5000)?;
+    let section = Section {
+        len: length,
+        rev: 0x0500_0001,
+        north: device,
+        id: 0x5000,
+        ..SECTION
+    };
+    push_section(&mut bytes, &section)?;
     Ok(bytes)
 }
 
@@ -13,7 +21,11 @@ fn names_the_first_fault_of_a_file_and_lists_nothing(rt: HostRuntime) -> Result<
     let alloc = rt.alloc();
     let mut many = Vec::new(alloc);
     for _ in 0..65_537 {
-        push_small(&mut many, 0xf0, 0xf8e5_d7af, 64)?;
+        push_update(&mut many, &SMALL)?;
+    }
+    let mut unknown = two_containers(alloc)?;
+    if let Some(kind) = unknown.as_mut_slice().get_mut(44) {
+        *kind = 2;
     }
     let table = [
         (update(alloc, 0, 1, 47)?, "0 short"),
@@ -40,7 +52,7 @@ fn names_the_first_fault_of_a_file_and_lists_nothing(rt: HostRuntime) -> Result<
         ),
         (many, "4194304 too-many"),
         (update(alloc, 0, 0x0041_4d44, 2_048)?, "0 equiv-type"),
-        (two_containers(alloc, 2)?, "44 section-type"),
+        (unknown, "44 section-type"),
         (bounded(alloc, 1_825, 0)?, "28 family-size"),
         (bounded(alloc, 1_824, 1)?, "28 chipset"),
     ];
@@ -80,7 +92,7 @@ fn refuses_each_front_of_a_file(rt: HostRuntime) -> Result<(), Fail> {
 fn takes_a_container_up_to_its_bounds(rt: HostRuntime) -> Result<(), Fail> {
     let alloc = rt.alloc();
     let mut none = Vec::new(alloc);
-    push_equiv(&mut none, 16, 0x0050_0f10, 0x5000)?;
+    push_head(&mut none, 16, 0x0050_0f10, 0x5000)?;
     let table = [
         (none, "file 0 y.bin amd 0\n"),
         (
@@ -130,7 +142,7 @@ fn answer_of_front(length: usize) -> (Status, &'static str) {
 fn answers_each_front_of_two_containers(rt: HostRuntime) -> Result<(), Fail> {
     let alloc = rt.alloc();
     for length in 0..232 {
-        let mut bytes = two_containers(alloc, 1)?;
+        let mut bytes = two_containers(alloc)?;
         bytes.truncate(length);
         let (status, text) = answer_of_front(length);
         assert!(rt;

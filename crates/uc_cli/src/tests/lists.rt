@@ -186,8 +186,7 @@ fn the_line_of_an_update_shows_its_date_and_minimum(rt: HostRuntime) -> Result<(
             .iter()
             .fold(0u32, |sum, word| sum.wrapping_add(*word));
         changed[4] = 0u32.wrapping_sub(sum);
-        let mut bytes = Vec::new(alloc);
-        push_words(&mut bytes, &changed)?;
+        let mut bytes = bytes_of(alloc, &changed)?;
         bytes.resize(2_048, 0)?;
         let mut files = MemFiles::new(alloc);
         files.put("d.bin", bytes.as_slice())?;

@@ -36,17 +36,17 @@ fn offers_each_core_the_first_of_the_greatest_revision(rt: HostRuntime) -> Resul
     let alloc = rt.alloc();
     let table = [
         (
-            T1,
+            ONE_THREAD,
             "select t a.bin a.bin",
             "core 0 rev 0x000000b4 offer 0 rev 0x000000f0\n",
         ),
         (
-            T1,
+            ONE_THREAD,
             "select t a.bin b.bin a.bin b.bin",
             "core 0 rev 0x000000b4 offer 1 rev 0x000000f4\n",
         ),
         (
-            T1,
+            ONE_THREAD,
             "select t m.bin",
             "core 0 rev 0x000000b4 offer 0 rev 0x000000f0 safe\n",
         ),
@@ -81,7 +81,7 @@ fn offers_each_core_the_first_of_the_greatest_revision(rt: HostRuntime) -> Resul
         files.put("t", topology.as_bytes())?;
         files.put(
             "zero.bin",
-            small(alloc, 0xf0, 0xf8e5_d7b1, 0, 0)?.as_slice(),
+            small(alloc, &SmallUpdate { flags: 0, ..SMALL })?.as_slice(),
         )?;
         let mut out = MemSink::new(alloc, ROOM)?;
         let status = run(alloc, line, &mut files, &mut out)?;

@@ -1,4 +1,5 @@
 use super::*;
+use update_samples::large_update;
 
 /// A schedule of two threads of which one comes to an ordinary attempt while their core is written.
 const ATTEMPT: &str =
@@ -22,18 +23,6 @@ fn machine(alloc: Global, threads: u16) -> Result<String, AllocError> {
     Ok(text)
 }
 
-/// An update of 102,400 bytes.
-fn large(alloc: Global) -> Result<Vec<u8>, AllocError> {
-    let mut words = HEADER;
-    words[4] = 0xf8e2_b82f;
-    words[7] = 102_352;
-    words[8] = 102_400;
-    let mut bytes = Vec::new(alloc);
-    push_words(&mut bytes, &words)?;
-    bytes.resize(102_400, 0)?;
-    Ok(bytes)
-}
-
 /// The files of a session, of which a call fails; none does for 0.
 fn session_files(
     alloc: Global,
@@ -42,7 +31,7 @@ fn session_files(
     failing: u32,
 ) -> Result<MemFiles, Fail> {
     let mut files = sample_files(alloc)?;
-    files.put("r.bin", large(alloc)?.as_slice())?;
+    files.put("r.bin", large_update(alloc)?.as_slice())?;
     files.put("t", machine(alloc, threads)?.as_bytes())?;
     files.put("s", script.as_bytes())?;
     files.fail_at(failing)?;
