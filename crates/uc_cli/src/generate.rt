@@ -62,7 +62,7 @@ fn play_generated(alloc: Global, number: u64) -> Result<(SessionAnswer, TallySin
     let script = script_for(alloc, number)?;
     let bundle = make_intel(alloc, number)?;
     let mut files = SureFiles::new(alloc);
-    files.put("bundle.bin", bundle.as_slice())?;
+    files.keep("bundle.bin", bundle)?;
     let mut tally = TallySink::new();
     let answer = run_session(
         alloc,

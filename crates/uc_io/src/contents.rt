@@ -26,14 +26,21 @@ impl Contents {
         }
     }
 
-    /// Puts bytes under a name, in the place of those that were there.
+    /// Puts a copy of bytes under a name, in the place of those that were there.
     pub(crate) fn put(&mut self, name: &str, bytes: &[u8]) -> Result<(), NoMemory>
         ensures ok { OnOk result (Puts (bytes_under self.old) (bytes_under self.new) name.now bytes.now) }
         ensures err { OnErr result (bytes_under self.new ≡ bytes_under self.old) }
     {
+        self.keep(name, bytes.to_vec(self.alloc)?)
+    }
+
+    /// Keeps bytes under a name, in the place of those that were there.
+    pub(crate) fn keep(&mut self, name: &str, bytes: Vec<u8>) -> Result<(), NoMemory>
+        ensures ok { OnOk result (Puts (bytes_under self.old) (bytes_under self.new) name.now bytes.items) }
+        ensures err { OnErr result (bytes_under self.new ≡ bytes_under self.old) }
+    {
         let key = String::from_str(self.alloc, name)?;
-        let copy = bytes.to_vec(self.alloc)?;
-        self.by_name.insert(key, copy)?;
+        self.by_name.insert(key, bytes)?;
         Ok(())
     }
 

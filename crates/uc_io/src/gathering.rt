@@ -46,7 +46,9 @@ pub fn hand_on<W: Write>(to: &mut W, held: &mut ArrayVec<u8, BLOCK>) -> Result<(
     Err(SinkFailed)
 }
 
-/// Drops so many bytes from the front of what is held.
+/// Drops so many bytes from the front of what is held. It stays a call of its own, since its room is cleared: only a write
+/// that failed comes here.
+#[inline(never)]
 fn keep_behind(held: &mut ArrayVec<u8, BLOCK>, written: usize)
     requires { written ≤ array_vec_len held.old }
     ensures { held.new.items ≡ drop written held.old.items }

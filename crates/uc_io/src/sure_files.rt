@@ -31,13 +31,22 @@ impl SureFiles {
         }
     }
 
-    /// Puts bytes under a name, in the place of those that were there. What is left of an open file stays.
+    /// Puts a copy of bytes under a name, in the place of those that were there. What is left of an open file stays.
     pub fn put(&mut self, name: &str, bytes: &[u8]) -> Result<(), NoMemory>
         ensures ok { OnOk result (Puts (put_under self.old) (put_under self.new) name.now bytes.now) }
         ensures err { OnErr result (put_under self.new ≡ put_under self.old) }
         ensures left { left_of self.new ≡ left_of self.old }
     {
         self.contents.put(name, bytes)
+    }
+
+    /// Keeps bytes under a name, as `put` does a copy of them.
+    pub fn keep(&mut self, name: &str, bytes: Vec<u8>) -> Result<(), NoMemory>
+        ensures ok { OnOk result (Puts (put_under self.old) (put_under self.new) name.now bytes.items) }
+        ensures err { OnErr result (put_under self.new ≡ put_under self.old) }
+        ensures left { left_of self.new ≡ left_of self.old }
+    {
+        self.contents.keep(name, bytes)
     }
 }
 
