@@ -14,7 +14,7 @@ use Rattle.rendezvous_steps.specs.Plan.{Plan}
 use Rattle.rendezvous_steps.specs.Events.{put}
 use Rattle.rendezvous_model.specs.Round.{State, Cause, Place, Out, In, Left, Halted, Withdrawn, Absent, GroupPlace, Waiting, Writing, Written, Reported, is_held, is_halted, opening_place, opening_state}
 use Rattle.rendezvous_model.specs.RoundStep.{RoundBy, thread_of, cause_of}
-use Rattle.rendezvous_model.specs.Safe.{is_being_written as writes}
+use Rattle.rendezvous_model.specs.Safe.{is_in_write as writes}
 use Rattle.rendezvous_model.specs.Run.{Run, Answered}
 use Rattle.rendezvous_model.specs.Excluded.{has_entered, inside_after, is_being_written, write_after}
 use Rattle.run_laws.proofs.Tables.{put_same, put_other, same_or_not}
