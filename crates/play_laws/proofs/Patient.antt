@@ -246,11 +246,11 @@ in_time_unlisted plan m outcome sound padded ruled patient over shows =
 
 -- The verdict.
 
-halted_not : (end : End) → end ≢ ends.Halted → verdict.is_halted end ≡ false
+halted_not : (end : End) → end ≢ ends.Halted → verdict.ended_halted end ≡ false
 halted_not ends.Halted e = absurd (e refl)
 halted_not end e = refl
 
-unfinished_not : (end : End) → end ≢ ends.Unfinished → verdict.is_unfinished end ≡ false
+unfinished_not : (end : End) → end ≢ ends.Unfinished → verdict.ended_unfinished end ≡ false
 unfinished_not ends.Unfinished e = absurd (e refl)
 unfinished_not end e = refl
 

@@ -56,7 +56,7 @@ undropped_by Going less = refl
 undropped_by DroppedByKick less = absurd (omega (arith, less))
 undropped_by (DroppedBy t) less = absurd (omega (arith, less))
 
-finished_by : (place : Place) → verdict.is_unfinished (end_of place) ≡ false → is_unfinished place ≡ false
+finished_by : (place : Place) → verdict.ended_unfinished (end_of place) ≡ false → is_unfinished place ≡ false
 finished_by Out finished = no _ finished refl
 finished_by In finished = no _ finished refl
 finished_by (Left x) finished = refl
@@ -127,7 +127,7 @@ module _ (law : EndedLaw) (plan : Plan) (m : Running) (outcome : Outcome) (sound
     each_is_last : (u : ℕ) → u < plan.threads → is_last (m.locals u).phase ≡ true
     each_is_last u within =
         let finished : is_unfinished ((shown_by plan m).place u) ≡ false =
-        finished_by ((shown_by plan m).place u) (sym (ap verdict.is_unfinished (end_is u within)) ∙ done.0.1 u within) in
+        finished_by ((shown_by plan m).place u) (sym (ap verdict.ended_unfinished (end_is u within)) ∙ done.0.1 u within) in
         last_by plan m ruled.first ruled.stage sound padded ruled.by (undropped_by ruled.stage less) u (m.locals u).phase refl
         (ap is_unfinished (sym (place_is plan m ruled.first ruled.stage sound padded ruled.by u)) ∙ finished)
 
