@@ -15,7 +15,7 @@ use Rattle.uc_script.specs.declared.answer.LineAnswer.{LineAnswer}
 use Rattle.uc_script.specs.declared.answer.LineAnswer.TheVariants.{Cause, NoMemory}
 use Rattle.uc_text.specs.Lines.{words_of}
 use Rattle.uc_script.specs.FirstLine.{first_line}
-use Rattle.uc_script.specs.Schedules.{Counted, IsBeatRead, IsFirstEvent, IsScheduled, AddsEvents, LeavesSchedule, schedule_fault}
+use Rattle.uc_script.specs.Schedules.{Counted, IsBeatRead, IsFirstBeat, IsScheduled, AddsBeats, LeavesSchedule, schedule_fault}
 
 -- the tests of words so far, and of those that are left, come to the tests of all; the beats so far are counted
 pub record IsScheduledSoFar (limits : Limits) (words : List (List ℕ)) (old : List Beat) (left : List (List ℕ)) (beats : List Beat) (events : ℕ) (spelled in_range : Bool) : Type 0 where
@@ -105,26 +105,13 @@ leaves_many A limits words old beats events leaves counted many =
     leaves.0 ∙ ap (first_failing true true true) more
 
 -- one more event of a line is put
-pub adds_event : (limits : Limits) (text : List ℕ) (old : List Beat) (rest : List ℕ) (beats : List Beat) (event : Beat) (more : List ℕ) (pushed : List Beat)
-    → AddsEvents limits text old rest beats → IsFirstEvent limits rest event more false → pushed ≡ beats ++ event ∷ [] → AddsEvents limits text old more pushed
-adds_event limits text old rest beats event more pushed so_far found is_pushed = record {
-  leaves = leaves_less limits (words_of (first_line text)) old (words_of (first_line rest)) beats (found.0.mark ∷ found.0.digits) (words_of (first_line more)) event pushed so_far.leaves found.0.words found.0.read is_pushed;
-  after = so_far.after ∙ found.0.after;
-  fewer = omega (arith, so_far.fewer, ap length found.0.words);
+pub adds_beat : (limits : Limits) (text : List ℕ) (old : List Beat) (rest : List ℕ) (beats : List Beat) (beat : Beat) (more : List ℕ) (pushed : List Beat)
+    → AddsBeats limits text old rest beats → IsFirstBeat limits rest beat more false → pushed ≡ beats ++ beat ∷ [] → AddsBeats limits text old more pushed
+adds_beat limits text old rest beats beat more pushed so_far found is_pushed = record {
+  leaves = leaves_less limits (words_of (first_line text)) old (words_of (first_line rest)) beats (found.mark ∷ found.digits) (words_of (first_line more)) beat pushed so_far.leaves found.words found.read is_pushed;
+  after = so_far.after ∙ found.after;
+  fewer = omega (arith, so_far.fewer, ap length found.words);
 }
-
--- beats that were put behind others are an event each
-abbrev pub AreEvents : Limits → List Beat → List Beat → Type 0
-AreEvents limits old beats = (events_of limits beats + length old ≡ events_of limits old + length beats) × (length old ≤ length beats)
-
-pub are_events : (limits : Limits) (old beats : List Beat) (event : Beat) (pushed : List Beat) → AreEvents limits old beats → events_of_beat limits event ≡ 1 → pushed ≡ beats ++ event ∷ [] → AreEvents limits old pushed
-are_events limits old beats event pushed so_far one is_pushed =
-    let more : length pushed ≡ length beats + 1 = ap length is_pushed ∙ length-append beats (event ∷ []) in
-    let events : events_of limits pushed ≡ events_of limits beats + 1 = omega (arith, ap (events_of limits) is_pushed, events_of-push limits beats event, one) in
-    (omega (arith, so_far.0, more, events), omega (arith, so_far.1, more))
-
-pub counted-events : (limits : Limits) (old beats : List Beat) (events more next : ℕ) → Counted limits old events → AreEvents limits old beats → more ≡ length beats - length old → next ≡ min (events + more) (2 ^ 64 - 1) → Counted limits beats next
-counted-events limits old beats events more next counted are is is_next = omega (arith, counted, are.0, are.1, is, is_next)
 
 -- where two parts of a line are put one after the other
 pub leaves_on : (limits : Limits) (words : List (List ℕ)) (old : List Beat) (left : List (List ℕ)) (beats : List Beat) (more : List (List ℕ)) (new : List Beat)

@@ -79,7 +79,7 @@ abbrev pub IsFirstEvent : Limits → List ℕ → Beat → List ℕ → Bool →
 IsFirstEvent limits text event rest is_last = IsFirstBeat limits text event rest is_last × (events_of_beat limits event ≡ 1)
 
 -- the words at the front of a text's first line are put, and the others are left; all that lines have after it is left too
-pub record AddsEvents (limits : Limits) (text : List ℕ) (old : List Beat) (rest : List ℕ) (new : List Beat) : Type 0 where
+pub record AddsBeats (limits : Limits) (text : List ℕ) (old : List Beat) (rest : List ℕ) (new : List Beat) : Type 0 where
   pub leaves : LeavesSchedule limits (words_of (first_line text)) old (words_of (first_line rest)) new
   pub after : after_line text ≡ after_line rest
   pub fewer : length (words_of (first_line rest)) ≤ length (words_of (first_line text))

@@ -1,11 +1,11 @@
 //! The schedules of loads.
-ghost use Rattle.std.specs.Prelude.{◌≡◌, drop, slice_index, IfOk, IfSome, MatchOption, MatchResult};
+ghost use Rattle.std.specs.Prelude.{◌≡◌, false, drop, slice_index, IfOk, IfSome, MatchOption, MatchResult};
 ghost use Rattle.uc_text.specs.Lines.{words_of};
 ghost use Rattle.script_text.specs.Forms.{is_beat};
 ghost use Rattle.script_text.specs.Within.{fits_beat, events_of_beat};
 ghost use Rattle.uc_script.specs.FirstLine.{left_words, left_text};
 ghost use Rattle.uc_script.specs.declared.answer.LineAnswer.TheVariants.{NoMemory as LineNoMemory};
-ghost use Rattle.uc_script.specs.Schedules.{IsBeatOf, IsNextBeat, IsScheduled, Counted, IsFirstBeat, IsFirstEvent, AddsEvents, AddsLine};
+ghost use Rattle.uc_script.specs.Schedules.{IsBeatOf, IsNextBeat, IsScheduled, Counted, IsFirstBeat, IsFirstEvent, AddsBeats, AddsLine};
 
 use crate::answer::LineAnswer;
 use crate::rest::split_line;
@@ -78,7 +78,7 @@ fn add_words<'a>(
 {
     let (mut rest, mut is_done) = (text, is_done);
     while !is_done {
-        let left = add_run(limits, rest, beats, events)?;
+        let left = add_short(limits, rest, beats, events)?;
         let Some(first) = first_beat(limits, left) else {
             let (line, rest) = split_line(left);
             add_beats(limits, line, beats, events)?;
@@ -95,7 +95,25 @@ fn add_words<'a>(
     Ok(rest)
 }
 
-/// Does as `add_events` where a word of two bytes stands at the front of a text, and nothing where a longer one does.
+/// Does as `add_run` where a word of two bytes stands at the front of a text, and nothing where a longer one does.
+#[inline(always)]
+fn add_short<'a>(
+    limits: Limits,
+    text: &'a [u8],
+    beats: &mut Beats,
+    events: &mut u64,
+) -> Result<&'a [u8], LineAnswer>
+    requires { Counted limits beats.old events.old }
+    ensures { MatchResult result (λ rest. AddsBeats limits text.now beats.old rest.now beats.new × Counted limits beats.new events.new) (λ answer. answer ≡ LineNoMemory) }
+{
+    match text {
+        [_, _, b' ', ..] => add_run(limits, text, beats, events),
+        _ => Ok(text),
+    }
+}
+
+/// Puts the beats of the words at the front of a text behind those of their load, as long as each has two bytes and a
+/// space stands behind it, and returns what follows them. Most words of a long line are so.
 #[inline(always)]
 fn add_run<'a>(
     limits: Limits,
@@ -104,35 +122,30 @@ fn add_run<'a>(
     events: &mut u64,
 ) -> Result<&'a [u8], LineAnswer>
     requires { Counted limits beats.old events.old }
-    ensures { MatchResult result (λ rest. AddsEvents limits text.now beats.old rest.now beats.new × Counted limits beats.new events.new) (λ answer. answer ≡ LineNoMemory) }
+    ensures { MatchResult result (λ rest. AddsBeats limits text.now beats.old rest.now beats.new × Counted limits beats.new events.new) (λ answer. answer ≡ LineNoMemory) }
 {
-    match text {
-        [_, _, b' ', ..] => add_events(limits, text, beats, events),
-        _ => Ok(text),
-    }
-}
-
-/// Puts the beats of the words at the front of a text behind those of their load, as long as each is an event of two
-/// bytes and a space stands behind it, and returns what follows them. Most words of a long line are so, and each is one
-/// event.
-#[inline(always)]
-fn add_events<'a>(
-    limits: Limits,
-    text: &'a [u8],
-    beats: &mut Beats,
-    events: &mut u64,
-) -> Result<&'a [u8], LineAnswer>
-    requires { Counted limits beats.old events.old }
-    ensures { MatchResult result (λ rest. AddsEvents limits text.now beats.old rest.now beats.new × Counted limits beats.new events.new) (λ answer. answer ≡ LineNoMemory) }
-{
-    let before = beats.as_slice().len();
-    let mut rest = text;
-    while let Some(first) = first_event(limits, rest, false) {
-        beats.push(first.event)?;
+    let (mut rest, mut count) = (text, *events);
+    while let Some(first) = first_of_run(limits, rest) {
+        count = count.saturating_add(events_of(limits, first.beat));
+        beats.push(first.beat)?;
         rest = first.rest;
     }
-    *events = events.saturating_add((beats.as_slice().len() - before) as u64);
+    *events = count;
     Ok(rest)
+}
+
+/// The beat of the first word of a text, where it has two bytes and a space stands behind it.
+#[inline(always)]
+fn first_of_run(limits: Limits, text: &[u8]) -> Option<FirstBeat<'_>>
+    ensures { IfSome result (λ first. IsFirstBeat limits text.now first.beat first.rest.now false) }
+{
+    let word = first_of_two_bytes(text, false)?;
+    let beat = beat_of(limits, word.mark, word.number)?;
+    Some(FirstBeat {
+        beat,
+        rest: word.rest,
+        is_last: false,
+    })
 }
 
 /// An event that the first word of a text states, and what follows the word and the byte behind it.
@@ -161,18 +174,26 @@ pub fn first_event(limits: Limits, text: &[u8], is_last: bool) -> Option<FirstEv
 fn event_of(limits: Limits, mark: u8, thread: u16) -> Option<Beat>
     ensures { IfSome result (λ event. IsBeatOf limits mark (Some thread) (Ok event) × (events_of_beat limits event ≡ 1)) }
 {
-    let event = match mark {
-        b's' => Beat::Step(thread),
-        b't' => Beat::Timeout(thread),
-        b'n' => Beat::Nmi(thread),
-        b'r' => Beat::Run(thread),
+    match beat_of(limits, mark, thread) {
+        Some(Beat::Rounds(_)) => None,
+        beat => beat,
+    }
+}
+
+/// The beat of a mark and a number, where they state one.
+#[inline(always)]
+fn beat_of(limits: Limits, mark: u8, number: u16) -> Option<Beat>
+    ensures { IfSome result (λ beat. IsBeatOf limits mark (Some number) (Ok beat)) }
+{
+    let beat = match mark {
+        b's' => Beat::Step(number),
+        b't' => Beat::Timeout(number),
+        b'n' => Beat::Nmi(number),
+        b'r' => Beat::Run(number),
+        b'*' => Beat::Rounds(number),
         _ => return None,
     };
-    if thread < limits.threads {
-        Some(event)
-    } else {
-        None
-    }
+    if fits(limits, beat) { Some(beat) } else { None }
 }
 
 /// Puts the beats of a line behind those of its load, whose events are counted.

@@ -1,15 +1,14 @@
 use Rattle.std.proofs.Common.{length}
 use Rattle.uc_text.specs.Lines.{words_of}
 use Rattle.uc_script.specs.FirstLine.{first_line}
-use Rattle.uc_script.specs.Schedules.{AddsEvents}
-use Rattle.uc_script.proofs.Scheduled.{AreEvents}
-use Rattle.uc_script.proofs.beats.add_events.Given as goal
+use Rattle.uc_script.specs.Schedules.{AddsBeats, Counted}
+use Rattle.uc_script.proofs.beats.add_run.Given as goal
 
--- the words so far are put, and each is an event
+-- the words so far are put, and their events are counted
 abbrev pub invariant-loop-first : goal.invariant-loop-first
 invariant-loop-first l = record {
-  adds : AddsEvents l.limits l.text l.fn.beats l.rest l.beats;
-  events : AreEvents l.limits l.fn.beats l.beats;
+  adds : AddsBeats l.limits l.text l.fn.beats l.rest l.beats;
+  counted : Counted l.limits l.beats l.count;
 }
 
 abbrev pub decreases-loop-first : goal.decreases-loop-first
