@@ -26,7 +26,7 @@ abbrev pub nothing_cached : ℕ → Option ℕ
 nothing_cached g = None
 
 -- the bytes of the patch that each group caches
-abbrev pub cached_patches : Patches → (ℕ → Option ℕ) → bring_ups.Patches
+abbrev pub cached_patches : Patches → (ℕ → Option ℕ) → bring_ups.CachedPatches
 cached_patches patches cached g = patch_at patches (cached g)
 
 -- the patch is there, and has its revision word
