@@ -1,2 +1,3 @@
 pub mod Counted
+mod Digits
 mod Files

@@ -6,6 +6,7 @@
 #![tactic(auto)]
 
 mod errors;
+mod line;
 mod lines;
 mod list;
 mod offers;

@@ -1,9 +1,10 @@
 //! The lines on files, their entries and what a core is offered, each composed in one piece.
-ghost use Rattle.std.specs.Prelude.{◌≡◌, ℕ, List};
+ghost use Rattle.std.specs.Prelude.{◌≡◌, ◌+◌, ◌≤◌, ◌++◌, ℕ, List, [], length};
 ghost use Rattle.uc_io.specs.Writing.{Writes};
 ghost use Rattle.report_text.specs.Lines.{file_line, update_line, patch_line, pair_line, sig_line, offer_line, no_offer_line, vendor_text, digit_pair, day_text, min_text, safe_text, IsDateText};
 ghost use Rattle.report_text.specs.Listing.{AreDateTexts, entry_line};
 
+use crate::line::Line;
 use arrayvec::ArrayVec;
 use file_entries::EntryFacts;
 use intel_header::day_of;
@@ -72,108 +73,98 @@ fn day_text(date: u32) -> [u8; 10]
     [c1, c2, y1, y2, b'-', m1, m2, b'-', d1, d2]
 }
 
-/// The day that an update's date names, or a dash where it names none.
-fn date_text(date: u32) -> ArrayVec<u8, 10>
-    ensures { IsDateText date result.items }
+/// Puts the day that an update's date names, or a dash where it names none.
+fn put_date(line: &mut Line, date: u32)
+    requires { 10 + length line.old ≤ 160 }
+    ensures items { (text : List ℕ) → IsDateText date text → line.new ≡ text ++ line.old }
+    ensures len { length line.new ≤ 10 + length line.old }
 {
-    let mut text = ArrayVec::new();
     match day_of(date) {
-        Some(_) => text.try_extend_from_slice(&day_text(date)).unwrap(),
-        None => text.push(b'-'),
+        Some(_) => line.put(&day_text(date)),
+        None => line.put(b"-"),
     }
-    text
 }
 
-/// ` min HEX`, or nothing where there is no minimum.
-fn min_text(min: u32) -> ArrayVec<u8, 15>
-    ensures { result.items ≡ min_text min }
+/// Puts ` min HEX`, or nothing where there is no minimum.
+fn put_min(line: &mut Line, min: u32)
+    requires { 15 + length line.old ≤ 160 }
+    ensures items { line.new ≡ min_text min ++ line.old }
+    ensures len { length line.new ≤ 15 + length line.old }
 {
-    let mut text = ArrayVec::new();
     if min != 0 {
-        text.try_extend_from_slice(b" min ").unwrap();
-        text.try_extend_from_slice(&hex8(min)).unwrap();
+        line.put_hex(min);
+        line.put(b" min ");
     }
-    text
 }
 
 /// The line of an update: `N at START len LEN rev HEX date YYYY-MM-DD sig HEX flags HEX`, and ` min HEX` where there is
 /// a minimum.
 #[tactic(auto, unfolding(report_text::specs::Lines::update_line))]
-fn put_update<S: Sink>(out: &mut S, number: u32, facts: &EntryFacts) -> Result<(), SinkFailed>
-    ensures { (date : List ℕ) → IsDateText facts.now.date date → Writes S.stands S.faults out.old out.new (update_line number facts.now date) result }
+fn compose_update(line: &mut Line, number: u32, facts: &EntryFacts)
+    requires { line.old ≡ [] }
+    ensures { (date : List ℕ) → IsDateText facts.now.date date → line.new ≡ update_line number facts.now date }
 {
-    let number = dec(u64::from(number));
-    let start = dec(facts.start);
-    let len = dec(facts.len);
-    let rev = hex8(facts.rev);
-    let date = date_text(facts.date);
-    let sig = hex8(facts.sig);
-    let flags = hex8(facts.flags);
-    let min = min_text(facts.min);
-    write_line(
-        out,
-        &[
-            number.as_slice(),
-            b" at ",
-            start.as_slice(),
-            b" len ",
-            len.as_slice(),
-            b" rev ",
-            &rev,
-            b" date ",
-            date.as_slice(),
-            b" sig ",
-            &sig,
-            b" flags ",
-            &flags,
-            min.as_slice(),
-            b"\n",
-        ],
-    )
+    line.put(b"\n");
+    put_min(line, facts.min);
+    line.put_hex(facts.flags);
+    line.put(b" flags ");
+    line.put_hex(facts.sig);
+    line.put(b" sig ");
+    put_date(line, facts.date);
+    line.put(b" date ");
+    line.put_hex(facts.rev);
+    line.put(b" rev ");
+    line.put_dec(facts.len);
+    line.put(b" len ");
+    line.put_dec(facts.start);
+    line.put(b" at ");
+    line.put_dec(u64::from(number));
 }
 
 /// The line of a patch: `N at START len LEN rev HEX id HEX family HEX`.
 #[tactic(auto, unfolding(report_text::specs::Lines::patch_line))]
-fn put_patch<S: Sink>(out: &mut S, number: u32, facts: &EntryFacts) -> Result<(), SinkFailed>
-    ensures { Writes S.stands S.faults out.old out.new (patch_line number facts.now) result }
+fn compose_patch(line: &mut Line, number: u32, facts: &EntryFacts)
+    requires { line.old ≡ [] }
+    ensures { line.new ≡ patch_line number facts.now }
 {
-    let number = dec(u64::from(number));
-    let start = dec(facts.start);
-    let len = dec(facts.len);
-    let rev = hex8(facts.rev);
-    let id = hex8(u32::from(facts.id));
-    let family = hex8(u32::from(facts.family));
-    write_line(
-        out,
-        &[
-            number.as_slice(),
-            b" at ",
-            start.as_slice(),
-            b" len ",
-            len.as_slice(),
-            b" rev ",
-            &rev,
-            b" id ",
-            &id,
-            b" family ",
-            &family,
-            b"\n",
-        ],
-    )
+    line.put(b"\n");
+    line.put_hex(u32::from(facts.family));
+    line.put(b" family ");
+    line.put_hex(u32::from(facts.id));
+    line.put(b" id ");
+    line.put_hex(facts.rev);
+    line.put(b" rev ");
+    line.put_dec(facts.len);
+    line.put(b" len ");
+    line.put_dec(facts.start);
+    line.put(b" at ");
+    line.put_dec(u64::from(number));
 }
 
 /// The line of an entry, by its vendor.
+fn compose_entry(line: &mut Line, number: u32, facts: &EntryFacts)
+    requires { line.old ≡ [] }
+    ensures { (date_text : ℕ → List ℕ) → AreDateTexts date_text
+        → line.new ≡ entry_line date_text number facts.now }
+{
+    match facts.vendor {
+        Vendor::Intel => compose_update(line, number, facts),
+        Vendor::Amd => compose_patch(line, number, facts),
+    }
+}
+
+/// Writes the line of an entry.
 pub fn put_entry_line<S: Sink>(
     out: &mut S,
     number: u32,
     facts: &EntryFacts,
 ) -> Result<(), SinkFailed>
-    ensures { (date_text : ℕ → List ℕ) → AreDateTexts date_text → Writes S.stands S.faults out.old out.new (entry_line date_text number facts.now) result }
+    ensures { (date_text : ℕ → List ℕ) → AreDateTexts date_text
+        → Writes S.stands S.faults out.old out.new (entry_line date_text number facts.now) result }
 {
-    match facts.vendor {
-        Vendor::Intel => put_update(out, number, facts),
-        Vendor::Amd => put_patch(out, number, facts),
-    }
+    let mut line = Line::new();
+    compose_entry(&mut line, number, facts);
+    out.write(line.as_slice())
 }
 
 /// The line of a pair in an update's table: `  pair HEX HEX`, a signature and the processor flags that go with it.
@@ -181,9 +172,13 @@ pub fn put_entry_line<S: Sink>(
 pub fn put_pair<S: Sink>(out: &mut S, sig: u32, flags: u32) -> Result<(), SinkFailed>
     ensures { Writes S.stands S.faults out.old out.new (pair_line (sig, flags)) result }
 {
-    let sig = hex8(sig);
-    let flags = hex8(flags);
-    write_line(out, &[b"  pair ", &sig, b" ", &flags, b"\n"])
+    let mut line = Line::new();
+    line.put(b"\n");
+    line.put_hex(flags);
+    line.put(b" ");
+    line.put_hex(sig);
+    line.put(b"  pair ");
+    out.write(line.as_slice())
 }
 
 /// The line of a signature that a patch is for: `  sig HEX`.
@@ -191,8 +186,11 @@ pub fn put_pair<S: Sink>(out: &mut S, sig: u32, flags: u32) -> Result<(), SinkFa
 pub fn put_sig<S: Sink>(out: &mut S, sig: u32) -> Result<(), SinkFailed>
     ensures { Writes S.stands S.faults out.old out.new (sig_line sig) result }
 {
-    let sig = hex8(sig);
-    write_line(out, &[b"  sig ", &sig, b"\n"])
+    let mut line = Line::new();
+    line.put(b"\n");
+    line.put_hex(sig);
+    line.put(b"  sig ");
+    out.write(line.as_slice())
 }
 
 /// ` safe` for an update whose own minimum the revision reaches.

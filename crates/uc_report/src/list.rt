@@ -37,14 +37,34 @@ fn put_sigs<S: Sink>(out: &mut S, catalog: &Catalog, i: u32) -> Result<(), SinkF
     Ok(())
 }
 
+/// Writes the same of an entry with this id: nothing where that is 0, as it is of each update. So an update is not looked
+/// up in vain.
+fn put_sigs_by_id<S: Sink>(
+    out: &mut S,
+    catalog: &Catalog,
+    i: u32,
+    id: u16,
+) -> Result<(), SinkFailed>
+    requires entry { i < length catalog.now.entries }
+    requires id { id ≡ (entry_at catalog.now i).facts.id }
+    ensures { Writes S.stands S.faults out.old out.new (flat_map sig_line (served (entry_at catalog.now i))) result }
+{
+    if id == 0 {
+        Ok(())
+    } else {
+        put_sigs(out, catalog, i)
+    }
+}
+
 /// Writes the lines on an entry: its own, and those on its table's pairs or its signatures.
 fn put_entry<S: Sink>(out: &mut S, catalog: &Catalog, i: u32) -> Result<(), SinkFailed>
     requires { i < length catalog.now.entries }
     ensures { (date_text : ℕ → List ℕ) → AreDateTexts date_text → Writes S.stands S.faults out.old out.new (entry_text date_text i (entry_at catalog.now i)) result }
 {
-    put_entry_line(out, i, &catalog.entry(i))?;
+    let facts = catalog.entry(i);
+    put_entry_line(out, i, &facts)?;
     put_pairs(out, catalog, i)?;
-    put_sigs(out, catalog, i)
+    put_sigs_by_id(out, catalog, i, facts.id)
 }
 
 /// Writes the lines on the entries from one number up to another.

@@ -23,5 +23,5 @@ returns-in_err-put_pairs g c = λ date_text are.
 pub returns : goal.returns
 returns g c = λ date_text are.
     let entry = entry_at c.args.catalog.now c.args.i in
-    subst (λ (facts : EntryFacts). Writes g.S.Sink.stands g.S.Sink.faults c.args.out.now c.put_sigs.new.out (entry_line date_text c.args.i facts ++ flat_map pair_line (drop 1 entry.pairs) ++ flat_map sig_line (served entry)) c.put_sigs.result) c.entry.ensures
-    (Writes-then g.S.Sink.stands g.S.Sink.faults _ _ _ _ _ _ (Writes-then g.S.Sink.stands g.S.Sink.faults _ _ _ _ _ (Ok tt) (c.in_ok-put_entry_line.ensures date_text are) c.in_ok-put_pairs.ensures) c.put_sigs.ensures)
+    subst (λ (facts : EntryFacts). Writes g.S.Sink.stands g.S.Sink.faults c.args.out.now c.put_sigs_by_id.new.out (entry_line date_text c.args.i facts ++ flat_map pair_line (drop 1 entry.pairs) ++ flat_map sig_line (served entry)) c.put_sigs_by_id.result) c.entry.ensures
+    (Writes-then g.S.Sink.stands g.S.Sink.faults _ _ _ _ _ _ (Writes-then g.S.Sink.stands g.S.Sink.faults _ _ _ _ _ (Ok tt) (c.in_ok-put_entry_line.ensures date_text are) c.in_ok-put_pairs.ensures) c.put_sigs_by_id.ensures)
