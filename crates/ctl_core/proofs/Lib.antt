@@ -1,5 +1,6 @@
 pub mod Decimals
 pub mod Polling
+pub mod Resting
 pub mod Counting
 pub mod Changes
 pub mod Chaining

@@ -36,6 +36,10 @@ next_sibling : (plan : Plan) (t : ℕ) (local : Local) → local.phase ≡ phase
 unfolding operation
 next_sibling plan t local is = rw is refl
 
+next_hold : (plan : Plan) (t : ℕ) (local : Local) → local.phase ≡ phase.OfflineHold → operation plan t local Step ≡ Some (Load (Ctrl t))
+unfolding operation
+next_hold plan t local is = rw is refl
+
 after_waiting : (plan : Plan) (t : ℕ) (local : Local) (found : ℕ) → local.phase ≡ phase.Waiting → found == 0 ≡ true → after plan t local Step found ≡ (polled local, Poll)
 unfolding after
 after_waiting plan t local found is none = rw (is, none) refl
@@ -44,9 +48,14 @@ after_sibling : (plan : Plan) (t : ℕ) (local : Local) (found : ℕ) → local.
 unfolding after
 after_sibling plan t local found is none = rw (is, none) refl
 
+after_hold : (plan : Plan) (t : ℕ) (local : Local) (found : ℕ) → local.phase ≡ phase.OfflineHold → found == 0 ≡ true → after plan t local Step found ≡ (polled local, Poll)
+unfolding after
+after_hold plan t local found is none = rw (is, none) refl
+
 by_phase : (plan : Plan) (t : ℕ) (running : Running) (p : Phase) → (running.locals t).phase ≡ p → waits p running.words t ≡ true → steps plan t Step running ≡ polls t running
 by_phase plan t running phase.Waiting is none = load_polls plan t running Decide (next_waiting plan t _ is) (after_waiting plan t _ _ is none)
 by_phase plan t running phase.SiblingWait is none = load_polls plan t running (Ctrl t) (next_sibling plan t _ is) (after_sibling plan t _ _ is none)
+by_phase plan t running phase.OfflineHold is none = load_polls plan t running (Ctrl t) (next_hold plan t _ is) (after_hold plan t _ _ is none)
 by_phase plan t running p is none = absurd (true≢false (sym none))
 
 pub waits_polls : (plan : Plan) (t : ℕ) (running : Running) → waits (running.locals t).phase running.words t ≡ true → steps plan t Step running ≡ polls t running

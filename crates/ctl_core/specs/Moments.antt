@@ -3,7 +3,7 @@ use Rattle.std.specs.Prelude.{◌≡◌, ◌==◌, ℕ, ◌<◌, ◌^◌, Bool, 
 use Rattle.std.specs.List.{find}
 use Rattle.rendezvous_steps.specs.declared.ends.End.{End}
 use Rattle.rendezvous_steps.specs.declared.steps.Phase.{Phase}
-use Rattle.rendezvous_steps.specs.declared.steps.Phase.TheVariants.{Waiting, SiblingWait, Nothing}
+use Rattle.rendezvous_steps.specs.declared.steps.Phase.TheVariants.{Waiting, SiblingWait, OfflineHold, Left, Halted, Withdrawn, Nothing}
 use Rattle.rendezvous_steps.specs.declared.steps.Local.{Local}
 use Rattle.rendezvous_steps.specs.declared.operations.Word.{Word}
 use Rattle.rendezvous_steps.specs.declared.operations.Word.TheVariants.{Decide, Mode, Ctrl, Nmi, Rev}
@@ -89,7 +89,16 @@ is_poll item = false
 abbrev pub waits : Phase → (Word → ℕ) → ℕ → Bool
 waits Waiting words t = words Decide == 0
 waits SiblingWait words t = words (Ctrl t) == 0
+waits OfflineHold words t = words (Ctrl t) == 0
 waits phase words t = false
+
+-- a thread in this phase has no operation
+abbrev pub rests : Phase → Bool
+rests Left = true
+rests Halted = true
+rests Withdrawn = true
+rests Nothing = true
+rests phase = false
 
 -- the thread is unfinished and its next step is no Poll
 abbrev pub is_ready : Plan → Running → ℕ → Bool

@@ -13,7 +13,7 @@ ghost use Rattle.ctl_words.specs.Lists.{has_word, word_of};
 ghost use Rattle.ctl_words.specs.Plans.{plan_of, IsSound};
 ghost use Rattle.std.specs.List.{range_with_len};
 ghost use Rattle.ctl_core.specs.Stands.{local_of};
-ghost use Rattle.ctl_core.specs.Moments.{running_of, Fits, owner, unfinished_from, is_poll, waits, is_ready, ready_from, end_in};
+ghost use Rattle.ctl_core.specs.Moments.{running_of, Fits, owner, unfinished_from, is_poll, waits, rests, is_ready, ready_from, end_in};
 
 use crate::chains::Chains;
 use crate::looks;
@@ -209,7 +209,8 @@ impl Moment {
         }
     }
 
-    /// A step that is no timeout. Most steps of a long wait are polls, which change a count and no more.
+    /// A step that is no timeout. Most steps of a long wait are polls, which change a count and no more, or those of threads
+    /// that are done.
     #[inline(always)]
     fn step(&mut self, plan: &Plan, thread: u16) -> What
         requires sound { IsSound plan.now }
@@ -221,6 +222,8 @@ impl Moment {
     {
         if self.waits(thread) {
             self.poll(plan, thread)
+        } else if self.rests(thread) {
+            self.rest(plan, thread)
         } else {
             self.act(plan, thread, How::Step)
         }
@@ -233,7 +236,7 @@ impl Moment {
     {
         match self.local(thread).phase {
             Phase::Waiting => self.words.get(Word::Decide) == 0,
-            Phase::SiblingWait => self.words.get(Word::Ctrl(thread)) == 0,
+            Phase::SiblingWait | Phase::OfflineHold => self.words.get(Word::Ctrl(thread)) == 0,
             _ => false,
         }
     }
@@ -255,6 +258,30 @@ impl Moment {
         };
         self.set_local(thread, polled);
         What::Poll
+    }
+
+    /// Whether the thread has no operation.
+    #[inline(always)]
+    fn rests(&self, thread: u16) -> bool
+        ensures { result ≡ rests ((running_of self.now).locals thread).phase }
+    {
+        matches!(
+            self.local(thread).phase,
+            Phase::Left | Phase::Halted | Phase::Withdrawn | Phase::Nothing
+        )
+    }
+
+    /// A step of a thread that has no operation.
+    #[inline(always)]
+    fn rest(&mut self, plan: &Plan, thread: u16) -> What
+        requires rests { IsTrue (rests ((running_of self.old).locals thread).phase) }
+        requires fits { Fits (plan_of plan.now) self.old }
+        requires in_range { thread < plan.now.threads }
+        ensures item { result ≡ (steps (plan_of plan.now) thread StepHow (running_of self.old)).1 }
+        ensures state { running_of self.new ≡ (steps (plan_of plan.now) thread StepHow (running_of self.old)).0 }
+        ensures fits { Fits (plan_of plan.now) self.new }
+    {
+        self.come_through(plan, thread)
     }
 
     /// The thread does its operation. Where it has none, a latched NMI comes through once it has left. It is kept apart from

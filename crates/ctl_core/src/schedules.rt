@@ -100,10 +100,15 @@ fn play_beat<S: Sink>(core: &mut Core<'_>, beat: Beat, out: &mut S) -> Result<()
     ensures plan { plan_in core.new ≡ plan_in core.old }
 {
     match beat {
-        Beat::Step(thread) => play_event(core, Event::Step(thread), out),
-        Beat::Timeout(thread) => play_event(core, Event::Timeout(thread), out),
-        Beat::Nmi(thread) => play_event(core, Event::Nmi(thread), out),
-        Beat::Run(thread) => play_event(core, Event::Run(thread), out),
+        Beat::Step(thread) => play_event(core, Event::Step(thread), &mut ArrayVec::new(), out),
+        Beat::Timeout(thread) => play_event(
+            core,
+            Event::Timeout(thread),
+            &mut ArrayVec::new(),
+            out,
+        ),
+        Beat::Nmi(thread) => play_event(core, Event::Nmi(thread), &mut ArrayVec::new(), out),
+        Beat::Run(thread) => play_event(core, Event::Run(thread), &mut ArrayVec::new(), out),
         Beat::Rounds(count) => play_rounds(core, count, out),
     }
 }
@@ -122,28 +127,34 @@ fn play_rounds<S: Sink>(core: &mut Core<'_>, count: u16, out: &mut S) -> Result<
     Ok(())
 }
 
-/// Plays a step of each thread in ascending order.
+/// Plays a step of each thread in ascending order. All their lines are composed in one buffer.
 fn play_round<S: Sink>(core: &mut Core<'_>, out: &mut S) -> Result<(), SinkFailed>
     ensures plays { Plays S.stands S.faults (plan_in core.old) (moment_in core.old) (moment_in core.new) (map StepOf (threads_from (plan_in core.old) 0)) out.old out.new result }
     ensures plan { plan_in core.new ≡ plan_in core.old }
 {
+    let mut line = ArrayVec::new();
     for thread in 0..core.threads() {
-        play_event(core, Event::Step(thread), out)?;
+        play_event(core, Event::Step(thread), &mut line, out)?;
     }
     Ok(())
 }
 
-/// Plays one event, if some thread is unfinished. It is laid into its loop, so that a round knows its events for steps.
+/// Plays one event, if some thread is unfinished; its line takes the place of what the buffer held. It is laid into its
+/// loop, so that a round knows its events for steps.
 #[inline(always)]
-fn play_event<S: Sink>(core: &mut Core<'_>, event: Event, out: &mut S) -> Result<(), SinkFailed>
+fn play_event<S: Sink>(
+    core: &mut Core<'_>,
+    event: Event,
+    line: &mut ArrayVec<u8, 64>,
+    out: &mut S,
+) -> Result<(), SinkFailed>
     requires { thread_of event < (plan_in core.old).threads }
     ensures plays { Plays S.stands S.faults (plan_in core.old) (moment_in core.old) (moment_in core.new) (event ∷ []) out.old out.new result }
     ensures plan { plan_in core.new ≡ plan_in core.old }
 {
     if !core.is_over() {
         let item = core.event(event);
-        let mut line = ArrayVec::new();
-        compose(&mut line, &item);
+        compose(line, &item);
         out.write(line.as_slice())?;
     }
     Ok(())
