@@ -1,16 +1,14 @@
 -- The first rows of a table.
 use Rattle.std.proofs.Common.{◌≡◌, ℕ, zero, suc, ◌+◌, ◌<◌, Bool, true, false, List, [], ◌∷◌, ◌++◌, Option, Some, None, length, get_or, take, refl, sym, ◌∙◌, ap, arith, eq-eqb}
 use Rattle.std.specs.Prelude.{not, filter, slice_get, ◌==◌, if◌then◌else◌}
-use Rattle.std.specs.Ordering.{nat_cmp}
-use Rattle.std.specs.List.Sorted.{IsStableByKey}
 use Rattle.std.proofs.lemmas.List.{take_more}
 use Rattle.std.proofs.lemmas.List.Elements.{filter-append}
 use Rattle.std.proofs.lemmas.Bool.Decides.{nat_tests}
 use Rattle.amd_format.specs.Equiv.{id_of}
 use Rattle.file_entries.specs.Entry.{first_rows}
 use Rattle.equiv_index.specs.declared.row.Row.{Row}
-use Rattle.equiv_index.specs.Rows.{numbered, first_with, is_numbered}
-use Rattle.equiv_index.proofs.Sorted.{having, stable_having}
+use Rattle.equiv_index.specs.Rows.{numbered, first_with, is_numbered, is_first}
+use Rattle.equiv_index.proofs.Sorted.{having}
 
 abbrev Plain : Type 0
 Plain = ℕ × ℕ
@@ -32,11 +30,6 @@ first_having [] sig = refl
 first_having (row ∷ rows) sig =
     elim (row.sig == sig) as (λ b. (if b then Some row else first_with rows sig) ≡ slice_get (if b then row ∷ having (λ (row : Row). row.sig) sig rows else having (λ (row : Row). row.sig) sig rows) 0)
     [ true ↦ refl | false ↦ first_having rows sig ]
-
--- a stable sort leaves it
-pub stable_first : (rows sorted : List Row) (sig : ℕ) → IsStableByKey (λ (row : Row). row.sig) nat_cmp rows sorted → first_with sorted sig ≡ first_with rows sig
-stable_first rows sorted sig stable =
-    first_having sorted sig ∙ ap (λ (l : List Row). slice_get l 0) (stable_having (λ (row : Row). row.sig) sig (record { sig = sig; number = 0; id = 0 }) rows sorted refl stable) ∙ sym (first_having rows sig)
 
 -- its id; 0 where there is none
 abbrev pub id_in : Option Row → ℕ
@@ -68,7 +61,7 @@ numbered_first n m (suc k) (row ∷ rows) within is =
     [ true ↦ other | false ↦ numbered_first (n + 1) m k rows (omega arith) (omega arith) ]
 
 -- the row, where its signature is not among those before
-abbrev fresh : Bool → Plain → List Plain
+abbrev pub fresh : Bool → Plain → List Plain
 fresh true row = row ∷ []
 fresh false row = []
 
@@ -94,17 +87,10 @@ first_push (x ∷ xs) row =
     (filter_fresh p row (is_among row.0 xs) (x.0 == row.0) (ap (λ (b : Bool). not b) (equal_either row.0 x.0)))
 
 -- so that the first rows up to a place grow by the row there, or by none
-module _ (rows : List Plain) (at : ℕ) (row : Plain) (first : Bool) (within : at < length rows) (this : row ≡ get_or rows at (0, 0)) (is : first ≡ is_numbered (first_with (numbered 0 rows) row.0) at) where
-  grown : first_rows (take (at + 1) rows) ≡ first_rows (take at rows) ++ fresh first row
-  grown =
-      let place : at ≡ 0 + at = omega arith in
-      let same : not (is_among row.0 (take at rows)) ≡ first =
-      sym (is ∙ ap (λ (r : Plain). is_numbered (first_with (numbered 0 rows) r.0) at) this ∙ numbered_first 0 at at rows within place ∙ ap (λ (r : Plain). not (is_among r.0 (take at rows))) (sym this)) in
-      ap (λ (l : List Plain). first_rows l) (take_more rows at (0, 0) within ∙ ap (λ (r : Plain). take at rows ++ r ∷ []) (sym this))
-      ∙ first_push (take at rows) row ∙ ap (λ (b : Bool). first_rows (take at rows) ++ fresh b row) same
-
-  pub one_first : first ≡ true → first_rows (take (at + 1) rows) ≡ first_rows (take at rows) ++ row ∷ []
-  one_first holds = grown ∙ ap (λ (b : Bool). first_rows (take at rows) ++ fresh b row) holds
-
-  pub no_first : first ≡ false → first_rows (take (at + 1) rows) ≡ first_rows (take at rows) ++ []
-  no_first fails = grown ∙ ap (λ (b : Bool). first_rows (take at rows) ++ fresh b row) fails
+pub first_rows_more : (rows : List Plain) (at : ℕ) → at < length rows
+    → first_rows (take (at + 1) rows) ≡ first_rows (take at rows) ++ fresh (is_first (numbered 0 rows) (at_number at (get_or rows at (0, 0)))) (get_or rows at (0, 0))
+first_rows_more rows at within =
+    let row = get_or rows at (0, 0) in
+    ap (λ (l : List Plain). first_rows l) (take_more rows at (0, 0) within)
+    ∙ first_push (take at rows) row
+    ∙ ap (λ (b : Bool). first_rows (take at rows) ++ fresh b row) (sym (numbered_first 0 at at rows within (omega arith)))

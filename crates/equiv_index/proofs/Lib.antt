@@ -1,5 +1,7 @@
+mod Alike
 mod FirstRows
-mod Marks
 mod Numbers
+mod Orders
+mod Runs
 mod Served
 mod Sorted

@@ -1,14 +1,15 @@
 -- Searches in lists that rise by a number.
 use Rattle.std.proofs.Common.{◌≡◌, ◌≢◌, ℕ, zero, suc, ◌+◌, ◌<◌, ◌≤◌, Bool, true, false, List, [], ◌∷◌, Option, Some, None, length, get_or, refl, sym, ◌∙◌, ap, arith, eq-eqb}
-use Rattle.std.specs.Prelude.{◌==◌, not, ◌&&◌, filter, slice_get, if◌then◌else◌}
-use Rattle.std.specs.Ordering.{nat_cmp, is_lt}
-use Rattle.std.specs.List.Sorted.{IsNonDecreasingBy, IsStableByKey, ties}
+use Rattle.std.specs.Prelude.{◌==◌, All, filter, slice_get, if◌then◌else◌}
+use Rattle.std.specs.Ordering.{nat_cmp, is_lt, ordering_then}
+use Rattle.std.specs.Cmp.{IsStrictWeakOrder}
+use Rattle.std.specs.List.Sorted.{IsNonDecreasingBy, IsSortedBy}
 use Rattle.std.proofs.lemmas.Bool.Decides.{nat_tests}
-use Rattle.std.proofs.lemmas.List.Elements.{filter_agree}
-
--- two numbers of which none is below the other
-tie_is_equal : (a b : ℕ) → (not (is_lt (nat_cmp a b)) && not (is_lt (nat_cmp b a))) ≡ (b == a)
-tie_is_equal a b = grind (arith, nat_tests)
+use Rattle.std.proofs.lemmas.Cmp.{nat_cmp_total, on_total, then_total}
+use Rattle.std.proofs.lemmas.List.Elements.{All-filter, filter_passes}
+use Rattle.std.proofs.lemmas.List.Kept.{IsSortedBy-filter, IsNonDecreasingBy-filter}
+use Rattle.std.proofs.lemmas.List.Sorted.{ranks_by, IsNonDecreasingBy-from_all_adjacent}
+use Rattle.equiv_index.proofs.Alike.{Alike, alike_filter, IsTold, one_order}
 
 module _ {X : Type 0} (n : X → ℕ) (key : ℕ) where
   -- the items with a number
@@ -19,13 +20,6 @@ module _ {X : Type 0} (n : X → ℕ) (key : ℕ) where
   abbrev pub if_having : Option X → Option X
   if_having None = None
   if_having (Some x) = if n x == key then Some x else None
-
-  -- a stable sort leaves them in their order
-  pub stable_having : (probe : X) (xs ys : List X) → n probe ≡ key → IsStableByKey n nat_cmp xs ys → having ys ≡ having xs
-  stable_having probe xs ys is stable =
-      let tie : X → Bool = ties (λ (x y : X). is_lt (nat_cmp (n x) (n y))) probe in
-      let same : (x : X) → (n x == key) ≡ tie x = λ x. sym (tie_is_equal (n probe) (n x) ∙ ap (λ (m : ℕ). n x == m) is) in
-      filter_agree (λ (x : X). n x == key) tie same ys ∙ stable probe ∙ sym (filter_agree (λ (x : X). n x == key) tie same xs)
 
   -- none has it where all are above
   none_having : (xs : List X) → ((j : ℕ) (d : X) → j < length xs → key < n (get_or xs j d)) → having xs ≡ []
@@ -87,3 +81,48 @@ module _ {X : Type 0} (n : X → ℕ) (key : ℕ) where
       let apart : (n x == key) ≡ false = grind (arith, nat_tests) in
       rw apart refl
   none_found (x ∷ xs) (suc place) d other = none_found xs place d (λ within. other (omega arith))
+
+-- of two pairs of which none is below the other, the first numbers do not fall
+no_lower_first : (a b c d : ℕ) → is_lt (ordering_then (nat_cmp a c) (nat_cmp b d)) ≡ false → c ≤ a
+no_lower_first a b c d is = grind (arith, nat_tests)
+
+-- and the second ones do not where the first are equal
+no_lower_second : (a b c d : ℕ) → is_lt (ordering_then (nat_cmp a c) (nat_cmp b d)) ≡ false → a ≡ c → d ≤ b
+no_lower_second a b c d is same = grind (arith, nat_tests)
+
+equal_by_test : (a b c : ℕ) → (a == c) ≡ true → (b == c) ≡ true → a ≡ b
+equal_by_test a b c is also = grind (arith, nat_tests)
+
+module _ {X : Type 0} (n m : X → ℕ) where
+  -- by one number, and by another where that is equal
+  abbrev pub is_below : X → X → Bool
+  is_below x y = is_lt (ordering_then (nat_cmp (n x) (n y)) (nat_cmp (m x) (m y)))
+
+  below_ranks : IsStrictWeakOrder is_below
+  below_ranks = ranks_by (then_total (on_total (λ (p : ℕ × ℕ). p.0) nat_cmp_total) (on_total (λ (p : ℕ × ℕ). p.1) nat_cmp_total)) (λ (x : X). (n x, m x))
+
+  pub rises_first : (xs : List X) → IsSortedBy is_below xs → IsNonDecreasingBy n xs
+  rises_first xs up = IsNonDecreasingBy-from_all_adjacent n xs (λ k d within.
+      let here = get_or xs k d in
+      let next = get_or xs (k + 1) d in
+      no_lower_first (n next) (m next) (n here) (m here) (up k d (omega arith) within))
+
+  -- those that have one first number rise by the second
+  having_rises : (key : ℕ) (xs : List X) → IsSortedBy is_below xs → IsNonDecreasingBy m (having n key xs)
+  having_rises key xs up =
+      let has : X → Bool = λ x. n x == key in
+      let kept : IsSortedBy is_below (filter has xs) = IsSortedBy-filter is_below below_ranks has xs up in
+      let passes : All (λ x. has x ≡ true) (filter has xs) = filter_passes has xs in
+      IsNonDecreasingBy-from_all_adjacent m (filter has xs)
+      (λ k d within.
+      let here = get_or (filter has xs) k d in
+      let next = get_or (filter has xs) (k + 1) d in
+      let same : n next ≡ n here = equal_by_test (n next) (n here) key (passes (k + 1) d within) (passes k d (omega arith)) in
+      no_lower_second (n next) (m next) (n here) (m here) (kept k d (omega arith) within) same)
+
+  -- where the second number tells an item, a sort by both leaves those of one first number in the order of the second
+  pub sorted_having : (of : ℕ → X) (key : ℕ) (xs ys : List X) → Alike xs ys → IsNonDecreasingBy m xs → IsSortedBy is_below ys → All (IsTold m of) xs → All (IsTold m of) ys → having n key ys ≡ having n key xs
+  sorted_having of key xs ys alike up sorted all all' =
+      let has : X → Bool = λ x. n x == key in
+      one_order m of (filter has xs) (filter has ys) (IsNonDecreasingBy-filter m has xs up) (having_rises key ys sorted)
+      (All-filter has (IsTold m of) xs all) (All-filter has (IsTold m of) ys all') (alike_filter has xs ys alike)

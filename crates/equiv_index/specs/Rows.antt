@@ -1,5 +1,5 @@
 -- The rows of an equivalence table, in their order.
-use Rattle.std.specs.Prelude.{ℕ, ◌+◌, ◌==◌, Bool, false, Option, Some, None, if◌then◌else◌, List, [], ◌∷◌, length, map, filter}
+use Rattle.std.specs.Prelude.{ℕ, ◌+◌, ◌==◌, Bool, false, Option, Some, None, if◌then◌else◌, List, [], ◌∷◌, length, map, filter, slice_index_or}
 use Rattle.std.specs.List.{range_with_len}
 use Rattle.file_entries.specs.Entry.{first_rows}
 use Rattle.equiv_index.specs.declared.row.Row.{Row}
@@ -27,6 +27,30 @@ first_with (row ∷ rows) sig = if row.sig == sig then Some row else first_with 
 abbrev pub is_numbered : Option Row → ℕ → Bool
 is_numbered None number = false
 is_numbered (Some row) number = row.number == number
+
+-- no row before it has its signature
+abbrev pub is_first : List Row → Row → Bool
+is_first rows row = is_numbered (first_with rows row.sig) row.number
+
+-- a row of no meaning
+abbrev pub no_row : Row
+no_row = record { sig = 0; number = 0; id = 0 }
+
+-- the row at a place, and those at some places
+abbrev pub row_at : List Row → ℕ → Row
+row_at rows place = slice_index_or rows place no_row
+
+abbrev pub rows_at : List Row → List ℕ → List Row
+rows_at rows places = map (row_at rows) places
+
+-- the signature of a row, where it has the id
+abbrev pub sig_if : Row → ℕ → Option ℕ
+sig_if row id = if row.id == id then Some row.sig else None
+
+-- the signatures of those that have an id
+abbrev pub sigs_with : List Row → List ℕ → ℕ → List ℕ
+sigs_with rows places id =
+    map (λ place. (row_at rows place).sig) (filter (λ place. (row_at rows place).id == id) places)
 
 -- the signatures whose first row gives the id
 abbrev pub served_by : List (ℕ × ℕ) → ℕ → List ℕ

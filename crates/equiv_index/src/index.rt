@@ -1,12 +1,11 @@
-ghost use Rattle.std.specs.Prelude.{◌≡◌, ℕ, ◌^◌, ◌<◌, ◌↔◌, IsTrue, All, length, IfOk, slice_get};
+ghost use Rattle.std.specs.Prelude.{◌≡◌, ◌≢◌, ℕ, ◌^◌, ◌<◌, ◌↔◌, IsTrue, AllPairs, length, filter, count_by, IfOk, slice_get};
 ghost use Rattle.std.specs.List.Sorted.{IsNonDecreasingBy};
 ghost use Rattle.amd_format.specs.Equiv.{id_of};
-ghost use Rattle.file_entries.specs.Entry.{first_rows};
-ghost use Rattle.equiv_index.specs.Rows.{numbered, served_by};
-ghost use Rattle.equiv_index.specs.Index.{IsBySig, IsById, BeginsRun, AreMarks};
+ghost use Rattle.equiv_index.specs.Rows.{numbered, rows_in, rows_at, is_first, served_by};
+ghost use Rattle.equiv_index.specs.Index.{IsBySig, IsById, BeginsRun};
 
 use crate::row::Row;
-use crate::search::{first_with, nth_with};
+use crate::search::{first_with, id_at, nth_with, number_at};
 use std::alloc::{AllocError, Global};
 use std::marker::Model;
 use uc_bytes::NoMemory;
@@ -16,8 +15,9 @@ use uc_bytes::NoMemory;
 pub struct RowIndex {
     /// All rows, sorted by signature; those of one signature are in the order of the table.
     by_sig: Vec<Row>,
-    /// The first row of each signature, sorted by id; those of one id are in the order of the table.
-    by_id: Vec<(u32, u16)>,
+    /// The places in `by_sig` of the first row of each signature, sorted by id; those of one id are in the order of the
+    /// table.
+    by_id: Vec<u32>,
 }
 
 impl Model for RowIndex {
@@ -39,7 +39,7 @@ impl RowIndex {
         ensures { IfOk result (λ index. index ≡ rows.now) }
     {
         let by_sig = rows_by_sig(alloc, rows)?;
-        let by_id = rows_by_id(alloc, rows, by_sig.as_slice())?;
+        let by_id = places_by_id(alloc, by_sig.as_slice())?;
         Ok(RowIndex { by_sig, by_id })
     }
 
@@ -58,7 +58,7 @@ impl RowIndex {
         ensures value { result ≡ slice_get (served_by self.now id) k }
         ensures few { length (served_by self.now id) < 2 ^ 32 }
     {
-        nth_with(self.by_id.as_slice(), id, k)
+        nth_with(self.by_sig.as_slice(), self.by_id.as_slice(), id, k)
     }
 }
 
@@ -80,13 +80,13 @@ fn numbered_rows(alloc: Global, rows: &[(u32, u16)]) -> Result<Vec<Row>, AllocEr
     Ok(numbered)
 }
 
-/// The rows of a table sorted by signature.
+/// The rows of a table sorted by signature. No two rows have one number, so the sort need not be stable.
 fn rows_by_sig(alloc: Global, rows: &[(u32, u16)]) -> Result<Vec<Row>, AllocError>
     requires { length rows.now < 2 ^ 32 }
     ensures { IfOk result (λ sorted. IsBySig rows.now sorted.items) }
 {
     let mut sorted = numbered_rows(alloc, rows)?;
-    sorted.sort_by_key(|row| row.sig)?;
+    sorted.sort_unstable_by_key(|row| (row.sig, row.number));
     Ok(sorted)
 }
 
@@ -98,50 +98,46 @@ fn begins_run(by_sig: &[Row], at: usize) -> bool
     at == 0 || by_sig[at - 1].sig != by_sig[at].sig
 }
 
-/// Marks by its number each row that is the first with its signature, in one pass over the sorted rows.
-fn first_marks(alloc: Global, by_sig: &[Row]) -> Result<Vec<bool>, AllocError>
+/// How many rows are the first of their signatures.
+fn count_first(by_sig: &[Row]) -> usize
+    requires few { length by_sig.now < 2 ^ 32 }
     requires sorted { IsNonDecreasingBy (λ row. row.sig) by_sig.now }
-    requires numbers { All (λ row. row.number < length by_sig.now) by_sig.now }
-    ensures { IfOk result (λ marks. AreMarks by_sig.now marks.items) }
+    requires apart { AllPairs (λ row other. row.number ≢ other.number) by_sig.now }
+    ensures { result ≡ count_by (is_first by_sig.now) by_sig.now }
 {
-    let mut marks = vec![in alloc; false; by_sig.len()]?;
+    let mut count = 0;
     'rows: for at in 0..by_sig.len() {
         if begins_run(by_sig, at) {
-            marks[by_sig[at].number as usize] = true;
+            count += 1;
         }
     }
-    Ok(marks)
+    count
 }
 
-/// The first row of each signature, in the order of the table.
-fn first_rows(
-    alloc: Global,
-    rows: &[(u32, u16)],
-    by_sig: &[Row],
-) -> Result<Vec<(u32, u16)>, AllocError>
-    requires { IsBySig rows.now by_sig.now }
-    ensures { IfOk result (λ firsts. firsts.items ≡ first_rows rows.now) }
+/// The places of the rows that are the first of their signatures. Room is taken once, for just these.
+fn first_places(alloc: Global, by_sig: &[Row]) -> Result<Vec<u32>, AllocError>
+    requires few { length by_sig.now < 2 ^ 32 }
+    requires sorted { IsNonDecreasingBy (λ row. row.sig) by_sig.now }
+    requires apart { AllPairs (λ row other. row.number ≢ other.number) by_sig.now }
+    ensures { IfOk result (λ places. rows_at by_sig.now places.items ≡ filter (is_first by_sig.now) by_sig.now) }
 {
-    let marks = first_marks(alloc, by_sig)?;
-    let mut firsts = Vec::new(alloc);
-    'rows: for number in 0..rows.len() {
-        if marks[number] {
-            firsts.push(rows[number])?;
+    let mut places = Vec::new(alloc);
+    places.reserve_exact(count_first(by_sig))?;
+    'rows: for at in 0..by_sig.len() {
+        if begins_run(by_sig, at) {
+            places.push(at as u32)?;
         }
     }
-    Ok(firsts)
+    Ok(places)
 }
 
-/// These sorted by id.
-fn rows_by_id(
-    alloc: Global,
-    rows: &[(u32, u16)],
-    by_sig: &[Row],
-) -> Result<Vec<(u32, u16)>, AllocError>
-    requires { IsBySig rows.now by_sig.now }
-    ensures { IfOk result (λ sorted. IsById rows.now sorted.items) }
+/// These sorted by id, and those of one id by their rows' numbers.
+fn places_by_id(alloc: Global, by_sig: &[Row]) -> Result<Vec<u32>, AllocError>
+    requires few { length by_sig.now < 2 ^ 32 }
+    requires order { IsBySig (rows_in by_sig.now) by_sig.now }
+    ensures { IfOk result (λ places. IsById (rows_in by_sig.now) by_sig.now places.items) }
 {
-    let mut firsts = first_rows(alloc, rows, by_sig)?;
-    firsts.sort_by_key(|row| row.1)?;
-    Ok(firsts)
+    let mut places = first_places(alloc, by_sig)?;
+    places.sort_unstable_by_key(|place| (id_at(by_sig, *place), number_at(by_sig, *place)));
+    Ok(places)
 }

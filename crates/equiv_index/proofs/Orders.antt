@@ -1,0 +1,139 @@
+-- A sort of a table's rows by signature, and of the places of the first rows by id.
+use Rattle.std.proofs.Common.{◌≡◌, ℕ, zero, suc, ◌+◌, ◌<◌, ◌≤◌, Bool, true, false, List, [], ◌∷◌, ◌++◌, Option, length, get_or, take, map, refl, sym, ◌∙◌, ap, arith}
+use Rattle.std.specs.Prelude.{All, sum_by, filter, slice_get, ◌==◌, if◌then◌else◌}
+use Rattle.std.specs.List.Sorted.{IsPermutation, IsSortedBy}
+use Rattle.std.proofs.lemmas.List.{get_or-map, length-map, map-append, take_all}
+use Rattle.std.proofs.lemmas.List.Elements.{All-filter, All-same, All-weaker, filter_agree, filter_more}
+use Rattle.std.proofs.lemmas.List.Kept.{IsNonDecreasingBy-filter}
+use Rattle.std.proofs.lemmas.List.Sorted.{All-permutation, IsPermutation-map}
+use Rattle.file_entries.specs.Entry.{first_rows}
+use Rattle.equiv_index.specs.declared.row.Row.{Row}
+use Rattle.equiv_index.specs.Rows.{numbered, is_first, is_numbered, row_at, rows_at, sigs_with, served_by}
+use Rattle.equiv_index.specs.Index.{IsBySig, IsById}
+use Rattle.equiv_index.proofs.Alike.{Alike, alike_filter, alike_moved, IsTold}
+use Rattle.equiv_index.proofs.Sorted.{having, is_below, rises_first, sorted_having}
+use Rattle.equiv_index.proofs.FirstRows.{at_number, first_having, fresh, first_rows_more}
+use Rattle.equiv_index.proofs.Numbers.{IsOf, all_of, sorted_of, number_of, numbered_at, numbered_rises, many_numbered}
+
+abbrev Plain : Type 0
+Plain = ℕ × ℕ
+
+abbrev pair_of : Row → Plain
+pair_of row = (row.sig, row.id)
+
+abbrev id_of_row : Row → ℕ
+id_of_row row = row.id
+
+abbrev sig_of_row : Row → ℕ
+sig_of_row row = row.sig
+
+-- the row of a number
+abbrev row_of : List Plain → ℕ → Row
+row_of rows k = at_number k (get_or rows k (0, 0))
+
+abbrev Told : List Plain → Row → Type 0
+Told rows = IsTold number_of (row_of rows)
+
+all_told : (rows : List Plain) → All (Told rows) (numbered 0 rows)
+all_told rows = All-weaker (IsOf rows) (Told rows) (λ row of. of.is) (numbered 0 rows) (all_of rows)
+
+sorted_told : (rows : List Plain) (sorted : List Row) → IsPermutation (numbered 0 rows) sorted → All (Told rows) sorted
+sorted_told rows sorted moved = All-weaker (IsOf rows) (Told rows) (λ row of. of.is) sorted (sorted_of rows sorted moved)
+
+-- rows that are sorted by signature and number have the first of each signature in front
+pub by_sig : (rows : List Plain) (sorted : List Row) → IsPermutation (numbered 0 rows) sorted → IsSortedBy (is_below sig_of_row number_of) sorted → IsBySig rows sorted
+by_sig rows sorted moved up =
+    let table = numbered 0 rows in
+    record {
+      moved = moved;
+      rises = rises_first sig_of_row number_of sorted up;
+      first = λ sig.
+          first_having sorted sig
+          ∙ ap (λ (l : List Row). slice_get l 0)
+          (sorted_having sig_of_row number_of (row_of rows) sig table sorted (alike_moved table sorted moved) (numbered_rises rows) up (all_told rows) (sorted_told rows sorted moved))
+          ∙ sym (first_having table sig);
+    }
+
+-- a row, where it passes
+passing : (b : Bool) (row : Row) → map pair_of (if b then row ∷ [] else []) ≡ fresh b (pair_of row)
+passing true row = refl
+passing false row = refl
+
+-- the first rows with numbers are those of the table
+first_upto : (rows : List Plain) (at : ℕ) → at ≤ length rows → map pair_of (filter (is_first (numbered 0 rows)) (take at (numbered 0 rows))) ≡ first_rows (take at rows)
+first_upto rows zero within = refl
+first_upto rows (suc at) within =
+    let table = numbered 0 rows in
+    let row = at_number at (get_or rows at (0, 0)) in
+    let next : at + 1 ≡ suc at = omega arith in
+    let here : get_or table at row ≡ row = numbered_at 0 at at rows row (omega arith) (omega arith) in
+    ap (λ (k : ℕ). map pair_of (filter (is_first table) (take k table))) (sym next)
+    ∙ ap (λ (l : List Row). map pair_of l) (filter_more (is_first table) table at row (omega (arith, many_numbered 0 rows)))
+    ∙ ap (λ (r : Row). map pair_of (filter (is_first table) (take at table) ++ (if is_first table r then r ∷ [] else []))) here
+    ∙ map-append pair_of (filter (is_first table) (take at table)) (if is_first table row then row ∷ [] else [])
+    ∙ ap (λ (l : List Plain). l ++ map pair_of (if is_first table row then row ∷ [] else [])) (first_upto rows at (omega arith))
+    ∙ ap (λ (l : List Plain). first_rows (take at rows) ++ l) (passing (is_first table row) row)
+    ∙ sym (first_rows_more rows at (omega arith))
+    ∙ ap (λ (k : ℕ). first_rows (take k rows)) next
+
+first_of_all : (rows : List Plain) → map pair_of (filter (is_first (numbered 0 rows)) (numbered 0 rows)) ≡ first_rows rows
+first_of_all rows =
+    let table = numbered 0 rows in
+    ap (λ (l : List Row). map pair_of (filter (is_first table) l)) (sym (take_all (length rows) table (omega (arith, many_numbered 0 rows))))
+    ∙ first_upto rows (length rows) (omega arith)
+    ∙ ap (λ (l : List Plain). first_rows l) (take_all (length rows) rows (omega arith))
+
+-- a choice by what is behind places, or by the rows there
+chosen : {X Y : Type 0} (at : X → Y) (p : Y → Bool) (value : Y → ℕ) (xs : List X) → map (λ x. value (at x)) (filter (λ x. p (at x)) xs) ≡ map value (filter p (map at xs))
+chosen at p value [] = refl
+chosen at p value (x ∷ xs) =
+    let rest = chosen at p value xs in
+    elim (p (at x)) as (λ b. map (λ y. value (at y)) (if b then x ∷ filter (λ y. p (at y)) xs else filter (λ y. p (at y)) xs) ≡ map value (if b then at x ∷ filter p (map at xs) else filter p (map at xs)))
+    [ true ↦ ap (λ (l : List ℕ). value (at x) ∷ l) rest | false ↦ rest ]
+
+module _ (rows : List Plain) (sorted : List Row) (firsts places : List ℕ) (is : IsBySig rows sorted) (told : rows_at sorted firsts ≡ filter (is_first sorted) sorted) (moved : IsPermutation firsts places)
+    (up : IsSortedBy (is_below (λ place. (row_at sorted place).id) (λ place. (row_at sorted place).number)) places) where
+  abbrev table : List Row
+  table = numbered 0 rows
+
+  moved_rows : IsPermutation (rows_at sorted firsts) (rows_at sorted places)
+  moved_rows = IsPermutation-map (row_at sorted) firsts places moved
+
+  rows_up : IsSortedBy (is_below id_of_row number_of) (rows_at sorted places)
+  rows_up = λ k d from within.
+      let inside : k + 1 < length places = omega (arith, within, length-map places (row_at sorted)) in
+      let here = get_or-map (row_at sorted) places k 0 d (omega arith) in
+      let next = get_or-map (row_at sorted) places (k + 1) 0 d inside in
+      ap (λ (r : Row). is_below id_of_row number_of r (get_or (rows_at sorted places) k d)) next
+      ∙ ap (λ (r : Row). is_below id_of_row number_of (row_at sorted (get_or places (k + 1) 0)) r) here
+      ∙ up k 0 from inside
+
+  same_rows : Alike (filter (is_first table) table) (rows_at sorted places)
+  same_rows = λ f.
+      alike_moved (rows_at sorted firsts) (rows_at sorted places) moved_rows f
+      ∙ ap (λ (l : List Row). sum_by f l) (told ∙ filter_agree (is_first sorted) (is_first table) (λ row. ap (λ (o : Option Row). is_numbered o row.number) (is.first row.sig)) sorted)
+      ∙ alike_filter (is_first table) table sorted (alike_moved table sorted is.moved) f
+
+  places_told : All (Told rows) (rows_at sorted places)
+  places_told =
+      All-permutation (Told rows) (rows_at sorted firsts) (rows_at sorted places) moved_rows
+      (All-same (Told rows) (rows_at sorted firsts) (filter (is_first sorted) sorted) told (All-filter (is_first sorted) (Told rows) sorted (sorted_told rows sorted is.moved)))
+
+  in_order : (id : ℕ) → having id_of_row id (rows_at sorted places) ≡ having id_of_row id (filter (is_first table) table)
+  in_order id =
+      sorted_having id_of_row number_of (row_of rows) id (filter (is_first table) table) (rows_at sorted places) same_rows
+      (IsNonDecreasingBy-filter number_of (is_first table) table (numbered_rises rows)) rows_up
+      (All-filter (is_first table) (Told rows) table (all_told rows)) places_told
+
+  served : (id : ℕ) → sigs_with sorted places id ≡ served_by rows id
+  served id =
+      chosen (row_at sorted) (λ (row : Row). row.id == id) (λ (row : Row). row.sig) places
+      ∙ ap (λ (l : List Row). map (λ (row : Row). row.sig) l) (in_order id)
+      ∙ chosen pair_of (λ (row : Plain). row.1 == id) (λ (row : Plain). row.0) (filter (is_first table) table)
+      ∙ ap (λ (l : List Plain). map (λ (row : Plain). row.0) (filter (λ (row : Plain). row.1 == id) l)) (first_of_all rows)
+
+  pub by_id : IsById rows sorted places
+  by_id = record {
+    rises = rises_first (λ place. (row_at sorted place).id) (λ place. (row_at sorted place).number) places up;
+    same = served;
+  }
