@@ -1,17 +1,18 @@
 //! Bytes under names.
-ghost use Rattle.std.specs.Prelude.{◌≡◌, OnOk, OnErr, None};
+ghost use Rattle.std.specs.Prelude.{◌≡◌, IfOk, IsErr, IsSome, OnOk, OnErr, None};
 ghost use Rattle.std.specs.Option.{option_map};
 ghost use Rattle.uc_io.specs.Putting.{Puts};
 
-use std::alloc::Global;
+use std::alloc::{AllocError, Global};
 use std::collections::BTreeMap;
+use std::rc::Rc;
 use uc_bytes::NoMemory;
 
-/// The bytes of files in memory, by their names.
+/// The bytes of files in memory, by their names. An open file shares them, so that they stand once.
 #[derive(Drop)]
 pub(crate) struct Contents {
     alloc: Global,
-    by_name: BTreeMap<String, Vec<u8>>,
+    by_name: BTreeMap<String, Rc<Vec<u8>>>,
 }
 
 impl Contents {
@@ -40,7 +41,8 @@ impl Contents {
         ensures err { OnErr result (bytes_under self.new ≡ bytes_under self.old) }
     {
         let key = String::from_str(self.alloc, name)?;
-        self.by_name.insert(key, bytes)?;
+        let shared = Rc::new(self.alloc, bytes)?;
+        self.by_name.insert(key, shared)?;
         Ok(())
     }
 
@@ -49,8 +51,19 @@ impl Contents {
         ensures { option_map (λ bytes. bytes.now) result ≡ bytes_under self.now name.now }
     {
         match self.by_name.get(name) {
-            Some(bytes) => Some(bytes.as_slice()),
+            Some(bytes) => Some(bytes.as_ref().as_slice()),
             None => None,
+        }
+    }
+
+    /// The bytes under a name, for one more owner.
+    pub(crate) fn share(&self, name: &str) -> Result<Option<Rc<Vec<u8>>>, AllocError>
+        ensures ok { IfOk result (λ shared. option_map (λ bytes. bytes.value.items) shared ≡ bytes_under self.now name.now) }
+        ensures err { IsErr result → IsSome (bytes_under self.now name.now) }
+    {
+        match self.by_name.get(name) {
+            Some(bytes) => Ok(Some(bytes.clone()?)),
+            None => Ok(None),
         }
     }
 }

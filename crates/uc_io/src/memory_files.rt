@@ -38,7 +38,7 @@ impl MemFiles {
     {
         MemFiles {
             contents: Contents::new(alloc),
-            opened: Opened::nothing(alloc),
+            opened: Opened::nothing(),
             failing: BTreeSet::new(alloc),
             calls: 0,
             faults: 0,
@@ -133,7 +133,7 @@ impl Files for MemFiles {
         ensures calls { calls_of self.new ≡ one_more (calls_of self.old) }
         ensures failing { fails_at self.new ≡ fails_at self.old }
     {
-        self.opened = Opened::nothing(alloc);
+        self.opened = Opened::nothing();
         if self.begins_to_fail() {
             self.count_fault();
             return Err(ReadAnswer::Failed);
@@ -149,7 +149,7 @@ impl Files for MemFiles {
         Ok(bytes.to_vec(alloc)?)
     }
 
-    fn open_file(&mut self, alloc: Global, name: &str) -> Result<(), OpenAnswer>
+    fn open_file(&mut self, _alloc: Global, name: &str) -> Result<(), OpenAnswer>
         ensures answer { IsOpened (Unit {0}) (holds_of self.old name.now) (left_of self.new)
             (faults_of self.old) (faults_of self.new) result }
         ensures contents { put_under self.new ≡ put_under self.old }
@@ -160,16 +160,16 @@ impl Files for MemFiles {
         ensures calls { calls_of self.new ≡ one_more (calls_of self.old) }
         ensures failing { fails_at self.new ≡ fails_at self.old }
     {
-        self.opened = Opened::nothing(alloc);
+        self.opened = Opened::nothing();
         if self.begins_to_fail() {
             self.count_fault();
             return Err(OpenAnswer::Failed);
         }
-        let Some(bytes) = self.contents.get(name) else {
+        let Some(bytes) = self.contents.share(name)? else {
             self.count_fault();
             return Err(OpenAnswer::Failed);
         };
-        self.opened = Opened::all_of(bytes.to_vec(alloc)?);
+        self.opened = Opened::all_of(Some(bytes));
         Ok(())
     }
 }

@@ -27,7 +27,7 @@ impl SureFiles {
     {
         SureFiles {
             contents: Contents::new(alloc),
-            opened: Opened::nothing(alloc),
+            opened: Opened::nothing(),
         }
     }
 
@@ -76,7 +76,7 @@ impl Files for SureFiles {
     ghost holds_stay = { λ old new same. ap (λ put name. unwrap_or (put name) []) same };
 
     fn read(&mut self, alloc: Global, name: &str, limit: u64) -> Result<Vec<u8>, ReadAnswer> {
-        self.opened = Opened::nothing(alloc);
+        self.opened = Opened::nothing();
         let bytes: &[u8] = self.contents.get(name).unwrap_or(&[]);
         let length = bytes.len() as u64;
         if length > limit {
@@ -85,10 +85,9 @@ impl Files for SureFiles {
         Ok(bytes.to_vec(alloc)?)
     }
 
-    fn open_file(&mut self, alloc: Global, name: &str) -> Result<(), OpenAnswer> {
-        self.opened = Opened::nothing(alloc);
-        let bytes: &[u8] = self.contents.get(name).unwrap_or(&[]);
-        self.opened = Opened::all_of(bytes.to_vec(alloc)?);
+    fn open_file(&mut self, _alloc: Global, name: &str) -> Result<(), OpenAnswer> {
+        self.opened = Opened::nothing();
+        self.opened = Opened::all_of(self.contents.share(name)?);
         Ok(())
     }
 }
