@@ -74,8 +74,12 @@ begins limits before line rest one force names next left (Err NoMemory) is goes 
 one_too_many : (limits : Limits) (before next : Before) (lines left : List (ℕ × List ℕ)) (fault : ScriptFault) (r : Result (Unit {0}) ScriptAnswer) → r ≡ Err (Fault fault) → read_on limits before lines ≡ Err fault → GoesOn limits before lines next left r
 one_too_many limits before next lines left fault r is fails = subst (GoesOn limits before lines next left) (sym is) fails
 
+-- the load that a line begins
+abbrev pub load_at : ℕ × List ℕ → Bool → OpenLoad
+load_at line force = record { line = line.0; force = force; names = drop 1 (words_of line.1); beats = [] }
+
 pub load_goes_on : (limits : Limits) (before : Before) (line : ℕ × List ℕ) (rest : List (ℕ × List ℕ)) (next : Before) (left : List (ℕ × List ℕ)) (r : Result (Unit {0}) ScriptAnswer)
-    → form_of before.place (words_of line.1) ≡ Some form.Load → AddsLoad limits before line.0 false (drop 1 (words_of line.1)) rest next left r → GoesOn limits before (line ∷ rest) next left r
+    → form_of before.place (words_of line.1) ≡ Some form.Load → AddsLoad limits before (load_at line false) rest next left r → GoesOn limits before (line ∷ rest) next left r
 load_goes_on limits before line rest next left r is (inl many) =
     one_too_many limits before next (line ∷ rest) left (fault_of line.0 TooMany) r many.1 (read_form_fault limits before line rest form.Load TooMany is (rw (le-leb 4096 (length before.commands) many.0) refl))
 load_goes_on limits before line rest next left r is (inr room) =
@@ -83,7 +87,7 @@ load_goes_on limits before line rest next left r is (inr room) =
     (read_form limits before line rest form.Load (with_load before line.0 false (drop 1 (words_of line.1))) is (rw (lt-leb 4096 (length before.commands) room.0) refl)) room.1
 
 pub force_goes_on : (limits : Limits) (before : Before) (line : ℕ × List ℕ) (rest : List (ℕ × List ℕ)) (next : Before) (left : List (ℕ × List ℕ)) (r : Result (Unit {0}) ScriptAnswer)
-    → form_of before.place (words_of line.1) ≡ Some form.LoadForce → AddsLoad limits before line.0 true (drop 1 (words_of line.1)) rest next left r → GoesOn limits before (line ∷ rest) next left r
+    → form_of before.place (words_of line.1) ≡ Some form.LoadForce → AddsLoad limits before (load_at line true) rest next left r → GoesOn limits before (line ∷ rest) next left r
 force_goes_on limits before line rest next left r is (inl many) =
     one_too_many limits before next (line ∷ rest) left (fault_of line.0 TooMany) r many.1 (read_form_fault limits before line rest form.LoadForce TooMany is (rw (le-leb 4096 (length before.commands) many.0) refl))
 force_goes_on limits before line rest next left r is (inr room) =

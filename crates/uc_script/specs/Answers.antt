@@ -12,10 +12,10 @@ use Rattle.script_text.specs.declared.command.OpenLoad.{OpenLoad}
 use Rattle.script_text.specs.declared.forms.Form.{Form}
 use Rattle.script_text.specs.declared.forms.Form.TheVariants as form
 use Rattle.script_text.specs.declared.forms.Place.{Place}
-use Rattle.script_text.specs.declared.forms.Place.TheVariants.{Front, AfterPool, Commands}
+use Rattle.script_text.specs.declared.forms.Place.TheVariants.{Front, AfterPool, Commands, InLoad}
 use Rattle.script_text.specs.declared.forms.Limits.{Limits}
 use Rattle.script_text.specs.Stated.{Stated}
-use Rattle.script_text.specs.Stands.{Before, with_command, with_load, with_end}
+use Rattle.script_text.specs.Stands.{Before, with_command, with_end}
 use Rattle.uc_text.specs.Lines.{words_of}
 use Rattle.uc_text.specs.Numbers.{number_of}
 use Rattle.script_text.specs.Reading.{after_form, read_on}
@@ -102,10 +102,10 @@ AddsCommand before command next (Err line.NoMemory) = Unit {0}
 -- ---- loads
 
 -- the lines of a load that begins go on, or it is a command too many
-abbrev pub AddsLoad : Limits → Before → ℕ → Bool → List (List ℕ) → List (ℕ × List ℕ) → Before → List (ℕ × List ℕ) → Result (Unit {0}) ScriptAnswer → Type 0
-AddsLoad limits before number force names lines next rest result =
-    ((4096 ≤ length before.commands) × (result ≡ Err (Fault (record { line = number; cause = TooMany }))))
-    ⊎ ((length before.commands < 4096) × GoesOn limits (with_load before number force names) lines next rest result)
+abbrev pub AddsLoad : Limits → Before → OpenLoad → List (ℕ × List ℕ) → Before → List (ℕ × List ℕ) → Result (Unit {0}) ScriptAnswer → Type 0
+AddsLoad limits before load lines next rest result =
+    ((4096 ≤ length before.commands) × (result ≡ Err (Fault (record { line = load.line; cause = TooMany }))))
+    ⊎ ((length before.commands < 4096) × GoesOn limits (record before { place = InLoad; load = load }) lines next rest result)
 
 abbrev pub EndsLoad : Before → OpenLoad → Before → Result (Unit {0}) ScriptAnswer → Type 0
 EndsLoad before load next (Ok _) = next ≡ with_end (record before { load = load })

@@ -177,7 +177,7 @@ impl Draft {
         lines: &mut Rest,
     ) -> Result<(), ScriptAnswer>
         requires { list_all is_utf8 (drop 1 (words_of line.now.text.now)) ≡ true }
-        ensures { AddsLoad limits self.old line.now.number force (drop 1 (words_of line.now.text.now)) (filter counts lines.old) self.new (filter counts lines.new) result }
+        ensures { AddsLoad limits self.old (record { line = line.now.number; force = force; names = drop 1 (words_of line.now.text.now); beats = [] }) (filter counts lines.old) self.new (filter counts lines.new) result }
     {
         if self.commands.len() >= MOST_COMMANDS {
             return Err(fault_at(line.number, ScriptCause::TooMany));
