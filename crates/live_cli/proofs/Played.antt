@@ -17,6 +17,7 @@ use Rattle.session_text.specs.declared.answers.SessionAnswer.{SessionAnswer}
 use Rattle.session_text.specs.declared.answers.SessionAnswer.TheVariants as session
 use Rattle.session_steps.specs.Did.{Did}
 use Rattle.session_steps.specs.Session.{Steps, texts_from, all_reads, all_runs, session_answer}
+use Rattle.session_steps.specs.Calls.{Outside, HeldWhere, Surroundings}
 use Rattle.session_steps.specs.Whole.{PlaysWhole, PlaysFront, IsPlayedThrough}
 use Rattle.top_call.specs.declared.status.Status.{Status}
 use Rattle.top_call.specs.declared.status.Status.TheVariants as statuses
@@ -166,26 +167,26 @@ module _ (tells : Type 0) (holds : List ℕ → List ℕ) (lists : Bool) (most :
       }
 
   module _ {D : Type 0} (stands : D → List ℕ → Type 0) (faults : D → ℕ) (machine : Machine) (stated : Stated) (opened : Opened tells holds most topology script machine stated) (told : Type 0) (held : List ℕ → List ℕ) (still : tells → told) (same : held ≡ holds)
-      (before now : ℕ) (runs runs_now : List RunOf) (old mid : D) where
-    abbrev Held : List Read → Type 0
-    Held reads = told → AreHeld held reads
+      (before now : Surroundings D) where
+    abbrev outside : Outside D
+    outside = record { stands = stands; faults = faults; lists = lists; held = HeldWhere told held }
 
-    held_by : (reads : List Read) → Held reads → tells → AreHeld holds reads
+    held_by : (reads : List Read) → HeldWhere told held reads → tells → AreHeld holds reads
     held_by reads is tell = subst (λ (h : List ℕ → List ℕ). AreHeld h reads) same (is (still tell))
 
     abbrev By : D → Status → Type 0
-    By new status = WrittenBy tells holds Texts lists runs runs_now (Rose before now) stands faults old new status
+    By new status = WrittenBy tells holds Texts lists before.runs now.runs (Rose before.files now.files) stands faults before.sink new status
 
-    whole : (answer : SessionAnswer) → PlaysWhole stands lists Held (setting_of machine stated) stated.commands before now runs runs_now old mid answer → WroteText (Whole tells holds Texts lists runs runs_now (Rose before now) stands faults old mid) stands old mid (status_of answer)
+    whole : (answer : SessionAnswer) → PlaysWhole outside (setting_of machine stated) stated.commands before now answer → WroteText (Whole tells holds Texts lists before.runs now.runs (Rose before.files now.files) stands faults before.sink now.sink) stands before.sink now.sink (status_of answer)
     whole answer plays = record {
       files = unread_after (2 + length (all_reads plays.dids)) answer;
       text = texts_from 1 stated.commands plays.dids;
-      is_text = text_of (Grown lists runs runs_now) machine stated opened plays.dids plays.may.steps (held_by (all_reads plays.dids) plays.may.is_held) answer plays.is_answer plays.kept;
+      is_text = text_of (Grown lists before.runs now.runs) machine stated opened plays.dids plays.may.steps (held_by (all_reads plays.dids) plays.may.is_held) answer plays.is_answer plays.kept;
       goes = goes (2 + length (all_reads plays.dids)) answer;
       grew = plays.grew;
     }
 
-    starts : (plays : PlaysFront stands lists Held (setting_of machine stated) stated.commands before now old mid) → StartsText (FromRuns tells holds AnyRuns Texts) (Rose before now) plays.front
+    starts : (plays : PlaysFront outside (setting_of machine stated) stated.commands before now) → StartsText (FromRuns tells holds AnyRuns Texts) (Rose before.files now.files) plays.front
     starts plays =
         let answer = session_answer plays.dids in
         let count = 2 + length (all_reads plays.dids) in
@@ -199,18 +200,18 @@ module _ (tells : Type 0) (holds : List ℕ → List ℕ) (lists : Bool) (most :
           is_front = plays.is_front;
         }
 
-    grew_more : (new : D) (front line : List ℕ) → Grew stands old mid front → Grew stands mid new line → Grew stands old new (front ++ line)
+    grew_more : (new : D) (front line : List ℕ) → Grew stands before.sink now.sink front → Grew stands now.sink new line → Grew stands before.sink new (front ++ line)
     grew_more new front line first second = record {
       each = λ taken before. subst (stands new) (append_assoc taken front line) (second.each (taken ++ front) (first.each taken before));
     }
 
     -- a session that came to its end writes nothing more
-    ended : (answer : SessionAnswer) (new : D) (status : Status) → By mid (status_of answer) → (status ≡ status_of answer) × (new ≡ mid) → By new status
+    ended : (answer : SessionAnswer) (new : D) (status : Status) → By now.sink (status_of answer) → (status ≡ status_of answer) × (new ≡ now.sink) → By new status
     ended answer new status written is =
         subst (By new) (sym is.0) (subst (λ (d : D). By d (status_of answer)) (sym is.1) written)
 
-    written_so : (answer : SessionAnswer) (new : D) (status : Status) → IsPlayedThrough stands faults lists Held (setting_of machine stated) stated.commands before now runs runs_now old mid answer
-        → IsEnded stands faults mid new answer status → By new status
+    written_so : (answer : SessionAnswer) (new : D) (status : Status) → IsPlayedThrough outside (setting_of machine stated) stated.commands before now answer
+        → IsEnded stands faults now.sink new answer status → By new status
     written_so session.Ended new status plays is = ended session.Ended new status (whole session.Ended plays) is
     written_so session.Short new status plays is = ended session.Short new status (whole session.Short plays) is
     written_so session.BadInput new status plays is = ended session.BadInput new status (whole session.BadInput plays) is
@@ -223,7 +224,7 @@ module _ (tells : Type 0) (holds : List ℕ → List ℕ) (lists : Bool) (most :
           line = [];
           starts = starts plays.0;
           of_line = (memory_line, refl);
-          grew = subst (Grew stands old mid) (sym (append-nil plays.0.front)) plays.0.grew;
+          grew = subst (Grew stands before.sink now.sink) (sym (append-nil plays.0.front)) plays.0.grew;
         })
         is
     written_so session.NoMemory new status plays is = elim is.outcome [
@@ -242,10 +243,10 @@ module _ (tells : Type 0) (holds : List ℕ → List ℕ) (lists : Bool) (most :
     ]
 
     -- a session that was played, after reads in which the files' count stayed
-    pub session_written : (first : ℕ) → before ≡ first → (answer : SessionAnswer) (new : D) (status : Status) → IsPlayedThrough stands faults lists Held (setting_of machine stated) stated.commands before now runs runs_now old mid answer
-        → IsEnded stands faults mid new answer status → WrittenBy tells holds Texts lists runs runs_now (Rose first now) stands faults old new status
+    pub session_written : (first : ℕ) → before.files ≡ first → (answer : SessionAnswer) (new : D) (status : Status) → IsPlayedThrough outside (setting_of machine stated) stated.commands before now answer
+        → IsEnded stands faults now.sink new answer status → WrittenBy tells holds Texts lists before.runs now.runs (Rose first now.files) stands faults before.sink new status
     session_written first count answer new status plays is =
-        subst (λ (b : ℕ). WrittenBy tells holds Texts lists runs runs_now (Rose b now) stands faults old new status) count (written_so answer new status plays is)
+        subst (λ (b : ℕ). WrittenBy tells holds Texts lists before.runs now.runs (Rose b now.files) stands faults before.sink new status) count (written_so answer new status plays is)
 
   -- ---- what has no session
 

@@ -4,14 +4,13 @@ use Rattle.std.specs.List.{All}
 use Rattle.std.proofs.lemmas.Bool.{cases_order}
 use Rattle.std.proofs.lemmas.List.Elements.{All-nil, All-cons, All-head, All-tail}
 use Rattle.uc_topology.specs.Stated.{IsPartition}
-use Rattle.file_reads.specs.Reads.{Read}
-use Rattle.rendezvous_rule.specs.Runs.{RunOf}
 use Rattle.script_text.specs.declared.command.Command.{Command}
 use Rattle.session_text.specs.declared.answers.Played.{Played}
 use Rattle.session_text.specs.declared.answers.Played.TheVariants as played
 use Rattle.session_steps.specs.State.{Setting, State, opening_state}
 use Rattle.session_steps.specs.Did.{Did}
 use Rattle.session_steps.specs.Session.{StepsFrom, ends_session, left_to_run, heading}
+use Rattle.session_steps.specs.Calls.{Outside, Situation}
 use Rattle.session_steps.specs.Played.{IsPlayed, LeftBy}
 use Rattle.session_laws.specs.Standing.{Standing, InRange, SessionsStand}
 use Rattle.session_laws.proofs.Stands.{opening_stands, steps_stand}
@@ -57,24 +56,20 @@ left_old_or_new front shown old new after left = elim (cases_order (length front
 ]
 
 -- whatever the call comes to, the state that it leaves stands
-pub played_stands : {D : Type 0} (stands : D → List ℕ → Type 0) (faults : D → ℕ) (lists : Bool)
-    (held : List Read → Type 0)
-    (setting : Setting) (k : ℕ) (one : Command) (files_before files_now : ℕ) (runs_before runs_now : List RunOf)
-    (old new : State) (sink_before sink_now : D) (come : Played) →
-    IsPartition setting.machine.stated → Standing setting old → InRange setting one →
-    IsPlayed stands faults lists held setting k one files_before files_now runs_before runs_now old new sink_before sink_now come →
-    Standing setting new
-played_stands stands faults lists held setting k one files_before files_now runs_before runs_now old new sink_before sink_now
-    (played.Answered answer) partition stood within is =
+pub played_stands : {D : Type 0} (outside : Outside D) (setting : Setting) (k : ℕ) (one : Command)
+    (before now : Situation D) (come : Played) →
+    IsPartition setting.machine.stated → Standing setting before.state → InRange setting one →
+    IsPlayed outside setting k one before now come → Standing setting now.state
+played_stands outside setting k one before now (played.Answered answer) partition stood within is =
     subst (Standing setting) (sym is.is_after)
-    (steps_stand lists setting old one is.did partition stood within is.may.step)
-played_stands stands faults lists held setting k one files_before files_now runs_before runs_now old new sink_before sink_now
-    played.WriteFault partition stood within is =
-    let next : Standing setting is.did.after =
-    steps_stand lists setting old one is.did partition stood within is.starts.may.step in
-    elim (left_old_or_new is.front (heading k one ++ is.did.shown) old new is.did.after is.left) [
+    (steps_stand outside.lists setting before.state one is.did partition stood within is.may.step)
+played_stands outside setting k one before now played.WriteFault partition stood within is =
+    let did : Did = is.starts.did in
+    let next : Standing setting did.after =
+    steps_stand outside.lists setting before.state one did partition stood within is.starts.may.step in
+    elim (left_old_or_new is.starts.front (heading k one ++ did.shown) before.state now.state did.after is.left) [
       | inl same ↦ subst (Standing setting) (sym same) stood
       | inr after ↦ subst (Standing setting) (sym after) next
     ]
-played_stands stands faults lists held setting k one files_before files_now runs_before runs_now old new sink_before sink_now
-    played.NoMemory partition stood within is = subst (Standing setting) (sym is.same) stood
+played_stands outside setting k one before now played.NoMemory partition stood within is =
+    subst (Standing setting) (sym is.same) stood

@@ -3,5 +3,6 @@ pub mod Offers
 pub mod Did
 pub mod Step
 pub mod Session
+pub mod Calls
 pub mod Played
 pub mod Whole

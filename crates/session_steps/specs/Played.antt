@@ -15,6 +15,7 @@ use Rattle.session_steps.specs.State.{Setting, State}
 use Rattle.session_steps.specs.Did.{Did}
 use Rattle.session_steps.specs.Step.{SessionStep}
 use Rattle.session_steps.specs.Session.{heading, text_of}
+use Rattle.session_steps.specs.Calls.{Outside, Situation}
 
 abbrev pub is_read_fault : CommandAnswer → Bool
 is_read_fault (Load (ReadFault file)) = true
@@ -40,21 +41,23 @@ ran_once None = []
 ran_once (Some run) = run ∷ []
 
 -- the command was answered: its whole text was written, and the state is that after it
-pub record Answers {D : Type 0} (stands : D → List ℕ → Type 0) (lists : Bool) (held : List Read → Type 0) (setting : Setting) (k : ℕ) (one : Command) (files_before files_now : ℕ) (runs_before runs_now : List RunOf) (old new : State) (sink_before sink_now : D) (answer : CommandAnswer) : Type 0 where
+pub record Answers {D : Type 0} (outside : Outside D) (setting : Setting) (k : ℕ) (one : Command) (before now : Situation D) (answer : CommandAnswer) : Type 0 where
   pub did : Did
-  pub may : MayRun lists held setting one old did
+  pub may : MayRun outside.lists outside.held setting one before.state did
   pub is_answer : answer ≡ did.answer
-  pub is_after : new ≡ did.after
-  pub grew : Grew stands sink_before sink_now (text_of k one did)
-  pub cause : FileCause (is_read_fault answer) files_before files_now
-  pub kept : lists ≡ false → runs_now ≡ runs_before ++ ran_once did.ran
+  pub is_after : now.state ≡ did.after
+  pub grew : Grew outside.stands before.sink now.sink (text_of k one did)
+  pub cause : FileCause (is_read_fault answer) before.files now.files
+  pub kept : outside.lists ≡ false → now.runs ≡ before.runs ++ ran_once did.ran
 
 -- a front of a command's text was written: one of an unread file only where the files' count rose
-pub record Starts {D : Type 0} (stands : D → List ℕ → Type 0) (lists : Bool) (held : List Read → Type 0) (setting : Setting) (k : ℕ) (one : Command) (files_before files_now : ℕ) (old : State) (sink_before sink_now : D) (did : Did) (front : List ℕ) : Type 0 where
-  pub may : MayRun lists held setting one old did
+pub record Starts {D : Type 0} (outside : Outside D) (setting : Setting) (k : ℕ) (one : Command) (before now : Situation D) : Type 0 where
+  pub did : Did
+  pub may : MayRun outside.lists outside.held setting one before.state did
+  pub front : List ℕ
   pub is_front : IsFront front (text_of k one did)
-  pub grew : Grew stands sink_before sink_now front
-  pub by_fault : IsTrue (is_read_fault did.answer) → Rose files_before files_now
+  pub grew : Grew outside.stands before.sink now.sink front
+  pub by_fault : IsTrue (is_read_fault did.answer) → Rose before.files now.files
 
 -- The state that a write fault leaves goes by how much was written: the old one where that is less than what is shown before
 -- the state changes, the new one where it is more, and one of both where it is just that.
@@ -63,24 +66,17 @@ pub record LeftBy (front shown : List ℕ) (old new after : State) : Type 0 wher
   pub just : length front ≡ length shown → (new ≡ old) ⊎ (new ≡ after)
   pub more : length shown < length front → new ≡ after
 
-pub record CutShort {D : Type 0} (stands : D → List ℕ → Type 0) (faults : D → ℕ) (lists : Bool) (held : List Read → Type 0) (setting : Setting) (k : ℕ) (one : Command) (files_before files_now : ℕ) (old new : State) (sink_before sink_now : D) : Type 0 where
-  pub did : Did
-  pub front : List ℕ
-  pub starts : Starts stands lists held setting k one files_before files_now old sink_before sink_now did front
-  pub left : LeftBy front (heading k one ++ did.shown) old new did.after
-  pub rose : Rose (faults sink_before) (faults sink_now)
+pub record CutShort {D : Type 0} (outside : Outside D) (setting : Setting) (k : ℕ) (one : Command) (before now : Situation D) : Type 0 where
+  pub starts : Starts outside setting k one before now
+  pub left : LeftBy starts.front (heading k one ++ starts.did.shown) before.state now.state starts.did.after
+  pub rose : Rose (outside.faults before.sink) (outside.faults now.sink)
 
 -- want of memory: the state is as before
-pub record RanOut {D : Type 0} (stands : D → List ℕ → Type 0) (lists : Bool) (held : List Read → Type 0) (setting : Setting) (k : ℕ) (one : Command) (files_before files_now : ℕ) (old new : State) (sink_before sink_now : D) : Type 0 where
-  pub did : Did
-  pub front : List ℕ
-  pub starts : Starts stands lists held setting k one files_before files_now old sink_before sink_now did front
-  pub same : new ≡ old
+pub record RanOut {D : Type 0} (outside : Outside D) (setting : Setting) (k : ℕ) (one : Command) (before now : Situation D) : Type 0 where
+  pub starts : Starts outside setting k one before now
+  pub same : now.state ≡ before.state
 
-abbrev pub IsPlayed : {D : Type 0} → (D → List ℕ → Type 0) → (D → ℕ) → Bool → (List Read → Type 0) → Setting → ℕ → Command → ℕ → ℕ → List RunOf → List RunOf → State → State → D → D → Played → Type 0
-IsPlayed stands faults lists held setting k one files_before files_now runs_before runs_now old new sink_before sink_now (played.Answered answer) =
-    Answers stands lists held setting k one files_before files_now runs_before runs_now old new sink_before sink_now answer
-IsPlayed stands faults lists held setting k one files_before files_now runs_before runs_now old new sink_before sink_now played.WriteFault =
-    CutShort stands faults lists held setting k one files_before files_now old new sink_before sink_now
-IsPlayed stands faults lists held setting k one files_before files_now runs_before runs_now old new sink_before sink_now played.NoMemory =
-    RanOut stands lists held setting k one files_before files_now old new sink_before sink_now
+abbrev pub IsPlayed : {D : Type 0} → Outside D → Setting → ℕ → Command → Situation D → Situation D → Played → Type 0
+IsPlayed outside setting k one before now (played.Answered answer) = Answers outside setting k one before now answer
+IsPlayed outside setting k one before now played.WriteFault = CutShort outside setting k one before now
+IsPlayed outside setting k one before now played.NoMemory = RanOut outside setting k one before now

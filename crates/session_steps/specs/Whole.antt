@@ -4,13 +4,13 @@ use Rattle.uc_io.specs.Faults.{Rose}
 use Rattle.uc_io.specs.Writing.{Grew}
 use Rattle.top_call.specs.Written.{IsFront}
 use Rattle.file_reads.specs.Reads.{Read}
-use Rattle.rendezvous_rule.specs.Runs.{RunOf}
 use Rattle.script_text.specs.declared.command.Command.{Command}
 use Rattle.session_text.specs.declared.answers.SessionAnswer.{SessionAnswer}
 use Rattle.session_text.specs.declared.answers.SessionAnswer.TheVariants as session
 use Rattle.session_steps.specs.State.{Setting}
 use Rattle.session_steps.specs.Did.{Did}
 use Rattle.session_steps.specs.Session.{Steps, texts_from, all_reads, all_runs, session_answer}
+use Rattle.session_steps.specs.Calls.{Outside, Surroundings}
 use Rattle.session_steps.specs.Played.{FileCause}
 
 abbrev pub is_unread : SessionAnswer → Bool
@@ -28,27 +28,25 @@ pub record MayPlay (lists : Bool) (held : List Read → Type 0) (setting : Setti
   pub is_held : held (all_reads dids)
 
 -- each command was answered, up to the last or to one that ended the session, and its whole text was written
-pub record PlaysWhole {D : Type 0} (stands : D → List ℕ → Type 0) (lists : Bool) (held : List Read → Type 0) (setting : Setting) (commands : List Command) (files_before files_now : ℕ) (runs_before runs_now : List RunOf) (sink_before sink_now : D) (answer : SessionAnswer) : Type 0 where
+pub record PlaysWhole {D : Type 0} (outside : Outside D) (setting : Setting) (commands : List Command) (before now : Surroundings D) (answer : SessionAnswer) : Type 0 where
   pub dids : List Did
-  pub may : MayPlay lists held setting commands dids
+  pub may : MayPlay outside.lists outside.held setting commands dids
   pub is_answer : answer ≡ session_answer dids
-  pub grew : Grew stands sink_before sink_now (texts_from 1 commands dids)
-  pub cause : FileCause (is_unread answer) files_before files_now
-  pub kept : lists ≡ false → runs_now ≡ runs_before ++ all_runs dids
+  pub grew : Grew outside.stands before.sink now.sink (texts_from 1 commands dids)
+  pub cause : FileCause (is_unread answer) before.files now.files
+  pub kept : outside.lists ≡ false → now.runs ≡ before.runs ++ all_runs dids
 
 -- a front of a session's text was written: one of an unread file only where the files' count rose
-pub record PlaysFront {D : Type 0} (stands : D → List ℕ → Type 0) (lists : Bool) (held : List Read → Type 0) (setting : Setting) (commands : List Command) (files_before files_now : ℕ) (sink_before sink_now : D) : Type 0 where
+pub record PlaysFront {D : Type 0} (outside : Outside D) (setting : Setting) (commands : List Command) (before now : Surroundings D) : Type 0 where
   pub dids : List Did
-  pub may : MayPlay lists held setting commands dids
+  pub may : MayPlay outside.lists outside.held setting commands dids
   pub front : List ℕ
   pub is_front : IsFront front (texts_from 1 commands dids)
-  pub grew : Grew stands sink_before sink_now front
-  pub by_fault : IsTrue (is_unread (session_answer dids)) → Rose files_before files_now
+  pub grew : Grew outside.stands before.sink now.sink front
+  pub by_fault : IsTrue (is_unread (session_answer dids)) → Rose before.files now.files
 
-abbrev pub IsPlayedThrough : {D : Type 0} → (D → List ℕ → Type 0) → (D → ℕ) → Bool → (List Read → Type 0) → Setting → List Command → ℕ → ℕ → List RunOf → List RunOf → D → D → SessionAnswer → Type 0
-IsPlayedThrough stands faults lists held setting commands files_before files_now runs_before runs_now sink_before sink_now session.WriteFault =
-    PlaysFront stands lists held setting commands files_before files_now sink_before sink_now × Rose (faults sink_before) (faults sink_now)
-IsPlayedThrough stands faults lists held setting commands files_before files_now runs_before runs_now sink_before sink_now session.NoMemory =
-    PlaysFront stands lists held setting commands files_before files_now sink_before sink_now
-IsPlayedThrough stands faults lists held setting commands files_before files_now runs_before runs_now sink_before sink_now answer =
-    PlaysWhole stands lists held setting commands files_before files_now runs_before runs_now sink_before sink_now answer
+abbrev pub IsPlayedThrough : {D : Type 0} → Outside D → Setting → List Command → Surroundings D → Surroundings D → SessionAnswer → Type 0
+IsPlayedThrough outside setting commands before now session.WriteFault =
+    PlaysFront outside setting commands before now × Rose (outside.faults before.sink) (outside.faults now.sink)
+IsPlayedThrough outside setting commands before now session.NoMemory = PlaysFront outside setting commands before now
+IsPlayedThrough outside setting commands before now answer = PlaysWhole outside setting commands before now answer

@@ -23,6 +23,7 @@ use Rattle.script_text.proofs.Kept.{within}
 use Rattle.session_text.specs.declared.answers.SessionAnswer.{SessionAnswer}
 use Rattle.session_text.specs.declared.answers.SessionAnswer.TheVariants as session
 use Rattle.session_steps.specs.Session.{texts_from, all_reads}
+use Rattle.session_steps.specs.Calls.{Outside, HeldWhere, Surroundings}
 use Rattle.session_steps.specs.Whole.{PlaysWhole, IsPlayedThrough}
 use Rattle.command_laws.specs.Steps.{SessionsExist}
 use Rattle.tool_text.specs.Plays.{limits_of, setting_of, bundle, IsGenerated}
@@ -67,11 +68,17 @@ module _ (sessions : SessionsExist) (number : ℕ) (topologies : (n : ℕ) → t
   module _ (machine : Machine) (script : Stated) (is_machine : machine ≡ machine_of number) (is_script : script ≡ script_of number)
       (holds : List ℕ → List ℕ) (is_bundle : holds ≡ bundle number) (runs_before runs_now : List RunOf) (first last : TallySink)
       (empty : Tallies first []) where
-    abbrev Held : List Read → Type 0
-    Held reads = Unit {0} → AreHeld holds reads
+    abbrev outside : Outside TallySink
+    outside = record { stands = Tallies; faults = λ sink. 0; lists = true; held = HeldWhere (Unit {0}) holds }
+
+    abbrev before : Surroundings TallySink
+    before = record { files = 0; runs = runs_before; sink = first }
+
+    abbrev now : Surroundings TallySink
+    now = record { files = 0; runs = runs_now; sink = last }
 
     whole : (answer : SessionAnswer)
-        (is : PlaysWhole Tallies true Held (setting_of machine script) script.commands 0 0 runs_before runs_now first last answer) →
+        (is : PlaysWhole outside (setting_of machine script) script.commands before now answer) →
         IsGenerated number (texts_from 1 script.commands is.dids) answer
     whole answer is = record {
       machine = machine;
@@ -92,7 +99,7 @@ module _ (sessions : SessionsExist) (number : ℕ) (topologies : (n : ℕ) → t
     }
 
     pub was_played : (answer : SessionAnswer) → answer ≢ session.NoMemory →
-        IsPlayedThrough Tallies (λ sink. 0) true Held (setting_of machine script) script.commands 0 0 runs_before runs_now first last answer →
+        IsPlayedThrough outside (setting_of machine script) script.commands before now answer →
         WasPlayed number answer last
     was_played session.Ended other is =
         record { whole = texts_from 1 script.commands is.dids; generated = whole session.Ended is; tallies = is.grew.each [] empty; ran = tt; goes = tt }

@@ -9,7 +9,6 @@ use Rattle.uc_topology.specs.Stated.{Machine}
 use Rattle.file_reads.specs.Accepts.{IsMachine}
 use Rattle.file_reads.specs.Reads.{Read, AreHeld}
 use Rattle.file_reads.proofs.Outcomes.{held_cons, held_one}
-use Rattle.rendezvous_rule.specs.Runs.{RunOf}
 use Rattle.report_text.specs.Lines.{unread_line}
 use Rattle.script_report.specs.Accepts.{IsScript}
 use Rattle.script_report.specs.Lines.{script_line}
@@ -18,6 +17,7 @@ use Rattle.session_text.specs.declared.answers.SessionAnswer.{SessionAnswer}
 use Rattle.session_text.specs.declared.answers.SessionAnswer.TheVariants as session
 use Rattle.session_steps.specs.Did.{Did}
 use Rattle.session_steps.specs.Session.{Steps, texts_from, all_reads, session_answer}
+use Rattle.session_steps.specs.Calls.{Outside, HeldWhere, Surroundings}
 use Rattle.session_steps.specs.Played.{FileCause}
 use Rattle.session_steps.specs.Whole.{is_unread, MayPlay, PlaysWhole, PlaysFront, IsPlayedThrough}
 use Rattle.top_call.specs.declared.status.Status.{Status}
@@ -109,14 +109,14 @@ module _ (tells : Type 0) (holds : List ℕ → List ℕ) (topology script : Lis
       }
 
   module _ {D : Type 0} (stands : D → List ℕ → Type 0) (faults : D → ℕ) (machine : Machine) (stated : Stated) (opened : Opened tells holds topology script machine stated) (told : Type 0) (held : List ℕ → List ℕ) (still : tells → told) (same : held ≡ holds)
-      (before now : ℕ) (runs runs_now : List RunOf) (old mid : D) where
-    abbrev Held : List Read → Type 0
-    Held reads = told → AreHeld held reads
+      (before now : Surroundings D) where
+    abbrev outside : Outside D
+    outside = record { stands = stands; faults = faults; lists = true; held = HeldWhere told held }
 
-    held_by : (reads : List Read) → Held reads → tells → AreHeld holds reads
+    held_by : (reads : List Read) → HeldWhere told held reads → tells → AreHeld holds reads
     held_by reads is tell = subst (λ (h : List ℕ → List ℕ). AreHeld h reads) same (is (still tell))
 
-    whole : (answer : SessionAnswer) → PlaysWhole stands true Held (setting_of machine stated) stated.commands before now runs runs_now old mid answer → WroteText Texts stands old mid (status_of answer)
+    whole : (answer : SessionAnswer) → PlaysWhole outside (setting_of machine stated) stated.commands before now answer → WroteText Texts stands before.sink now.sink (status_of answer)
     whole answer plays = record {
       files = unread_after (2 + length (all_reads plays.dids)) answer;
       text = texts_from 1 stated.commands plays.dids;
@@ -125,7 +125,7 @@ module _ (tells : Type 0) (holds : List ℕ → List ℕ) (topology script : Lis
       grew = plays.grew;
     }
 
-    starts : (plays : PlaysFront stands true Held (setting_of machine stated) stated.commands before now old mid) → StartsText Texts (Rose before now) plays.front
+    starts : (plays : PlaysFront outside (setting_of machine stated) stated.commands before now) → StartsText Texts (Rose before.files now.files) plays.front
     starts plays =
         let answer = session_answer plays.dids in
         let count = 2 + length (all_reads plays.dids) in
@@ -139,38 +139,38 @@ module _ (tells : Type 0) (holds : List ℕ → List ℕ) (topology script : Lis
           is_front = plays.is_front;
         }
 
-    grew_more : (new : D) (front line : List ℕ) → Grew stands old mid front → Grew stands mid new line → Grew stands old new (front ++ line)
+    grew_more : (new : D) (front line : List ℕ) → Grew stands before.sink now.sink front → Grew stands now.sink new line → Grew stands before.sink new (front ++ line)
     grew_more new front line first second = record {
       each = λ taken before. subst (stands new) (append_assoc taken front line) (second.each (taken ++ front) (first.each taken before));
     }
 
-    written_so : (answer : SessionAnswer) (new : D) (status : Status) → IsPlayedThrough stands faults true Held (setting_of machine stated) stated.commands before now runs runs_now old mid answer
-        → IsEnded stands faults mid new answer status → Written Texts (Rose before now) stands old new status
+    written_so : (answer : SessionAnswer) (new : D) (status : Status) → IsPlayedThrough outside (setting_of machine stated) stated.commands before now answer
+        → IsEnded stands faults now.sink new answer status → Written Texts (Rose before.files now.files) stands before.sink new status
     written_so session.Ended new status plays ended =
-        subst (Written Texts (Rose before now) stands old new) (sym ended.0) (subst (λ (d : D). WroteText Texts stands old d statuses.Done) (sym ended.1) (whole session.Ended plays))
+        subst (Written Texts (Rose before.files now.files) stands before.sink new) (sym ended.0) (subst (λ (d : D). WroteText Texts stands before.sink d statuses.Done) (sym ended.1) (whole session.Ended plays))
     written_so session.Short new status plays ended =
-        subst (Written Texts (Rose before now) stands old new) (sym ended.0) (subst (λ (d : D). WroteText Texts stands old d statuses.Short) (sym ended.1) (whole session.Short plays))
+        subst (Written Texts (Rose before.files now.files) stands before.sink new) (sym ended.0) (subst (λ (d : D). WroteText Texts stands before.sink d statuses.Short) (sym ended.1) (whole session.Short plays))
     written_so session.BadInput new status plays ended =
-        subst (Written Texts (Rose before now) stands old new) (sym ended.0) (subst (λ (d : D). WroteText Texts stands old d statuses.BadInput) (sym ended.1) (whole session.BadInput plays))
+        subst (Written Texts (Rose before.files now.files) stands before.sink new) (sym ended.0) (subst (λ (d : D). WroteText Texts stands before.sink d statuses.BadInput) (sym ended.1) (whole session.BadInput plays))
     written_so session.ReadFault new status plays ended =
-        subst (Written Texts (Rose before now) stands old new) (sym ended.0) (subst (λ (d : D). WroteText Texts stands old d statuses.ReadFault) (sym ended.1) (whole session.ReadFault plays))
+        subst (Written Texts (Rose before.files now.files) stands before.sink new) (sym ended.0) (subst (λ (d : D). WroteText Texts stands before.sink d statuses.ReadFault) (sym ended.1) (whole session.ReadFault plays))
     written_so (session.Panicked t) new status plays ended =
-        subst (Written Texts (Rose before now) stands old new) (sym ended.0) (subst (λ (d : D). WroteText Texts stands old d (statuses.Panicked t)) (sym ended.1) (whole (session.Panicked t) plays))
+        subst (Written Texts (Rose before.files now.files) stands before.sink new) (sym ended.0) (subst (λ (d : D). WroteText Texts stands before.sink d (statuses.Panicked t)) (sym ended.1) (whole (session.Panicked t) plays))
     written_so session.WriteFault new status plays ended =
-        subst (Written Texts (Rose before now) stands old new) (sym ended.0)
+        subst (Written Texts (Rose before.files now.files) stands before.sink new) (sym ended.0)
         (record {
           front = plays.0.front;
           line = [];
           starts = starts plays.0;
           of_line = (memory_line, refl);
-          grew = subst (Grew stands old new) (sym (append-nil plays.0.front)) (subst (λ (d : D). Grew stands old d plays.0.front) (sym ended.1) plays.0.grew);
+          grew = subst (Grew stands before.sink new) (sym (append-nil plays.0.front)) (subst (λ (d : D). Grew stands before.sink d plays.0.front) (sym ended.1) plays.0.grew);
         })
     written_so session.NoMemory new status plays ended = elim ended.outcome [
       | inl all ↦
-          subst (Written Texts (Rose before now) stands old new) (sym all.0)
+          subst (Written Texts (Rose before.files now.files) stands before.sink new) (sym all.0)
           (record { front = plays.front; starts = starts plays; grew = grew_more new plays.front memory_line plays.grew all.1 })
       | inr cut ↦
-          subst (Written Texts (Rose before now) stands old new) (sym cut.0)
+          subst (Written Texts (Rose before.files now.files) stands before.sink new) (sym cut.0)
           (record {
             front = plays.front;
             line = cut.1.front;
@@ -181,10 +181,10 @@ module _ (tells : Type 0) (holds : List ℕ → List ℕ) (topology script : Lis
     ]
 
     -- a session that was played, after reads in which the files' count stayed
-    pub session_written : (first : ℕ) → before ≡ first → (answer : SessionAnswer) (new : D) (status : Status) → IsPlayedThrough stands faults true Held (setting_of machine stated) stated.commands before now runs runs_now old mid answer
-        → IsEnded stands faults mid new answer status → Written Texts (Rose first now) stands old new status
+    pub session_written : (first : ℕ) → before.files ≡ first → (answer : SessionAnswer) (new : D) (status : Status) → IsPlayedThrough outside (setting_of machine stated) stated.commands before now answer
+        → IsEnded stands faults now.sink new answer status → Written Texts (Rose first now.files) stands before.sink new status
     session_written first count answer new status plays ended =
-        subst (λ (b : ℕ). Written Texts (Rose b now) stands old new status) count (written_so answer new status plays ended)
+        subst (λ (b : ℕ). Written Texts (Rose b now.files) stands before.sink new status) count (written_so answer new status plays ended)
 
   module _ {D : Type 0} (stands : D → List ℕ → Type 0) (faults : D → ℕ) (machine : Machine) (bytes : List ℕ) (is_held : tells → bytes ≡ holds topology) (is_machine : IsMachine bytes machine) (told : Type 0) (held : List ℕ → List ℕ) (still : tells → told)
       (same : held ≡ holds) (old new : D) (first before now : ℕ) (count : before ≡ first) (has : HasText (FromReads (Unit {0}) holds (PlayText topology script))) where

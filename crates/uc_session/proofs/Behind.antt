@@ -5,8 +5,6 @@ use Rattle.uc_io.specs.Faults.{Rose}
 use Rattle.uc_io.specs.Writing.{Grew, Writes}
 use Rattle.uc_io.proofs.Writes.{Grew-then, Writes-then}
 use Rattle.top_call.specs.Written.{IsFront}
-use Rattle.file_reads.specs.Reads.{Read}
-use Rattle.rendezvous_rule.specs.Runs.{RunOf}
 use Rattle.script_text.specs.declared.command.Command.{Command}
 use Rattle.session_text.specs.Lines.{answer_line}
 use Rattle.session_text.specs.declared.answers.CommandAnswer.{CommandAnswer}
@@ -15,7 +13,8 @@ use Rattle.session_text.specs.declared.answers.Played.TheVariants.{Answered, Wri
 use Rattle.session_steps.specs.State.{Setting, State}
 use Rattle.session_steps.specs.Did.{Did}
 use Rattle.session_steps.specs.Session.{heading, text_of, names_in}
-use Rattle.session_steps.specs.Played.{is_read_fault, MayRun, FileCause, ran_once, IsPlayed, LeftBy}
+use Rattle.session_steps.specs.Calls.{Outside, Situation}
+use Rattle.session_steps.specs.Played.{is_read_fault, MayRun, FileCause, ran_once, Starts, IsPlayed, LeftBy}
 use Rattle.uc_session.specs.Playing.{told_of, WroteFront, Follows}
 
 -- what the call came to, by the last write
@@ -79,18 +78,23 @@ with_heading head front shown old new after left =
 
 -- ---- behind the heading
 
-module _ {D : Type 0} (stands : D → List ℕ → Type 0) (faults : D → ℕ) (one : Command) (did : Did) (old : State) where
+module _ {D : Type 0} (outside : Outside D) (one : Command) (did : Did) (before : Situation D) where
   -- what is shown was written and the state has changed; then the rest was written, or not all of it
-  pub told : {E : Type 0} (first mid last : D) (r : Result (Unit {0}) E) →
-      Writes {E = E} stands faults first mid did.shown (Ok tt) → Writes stands faults mid last (told_of one did) r →
-      Follows stands faults one did old did.after first last (come did.answer r)
-  told {E = E} first mid last (Ok done) shown rest =
-      let all : Writes {E = E} stands faults first last (did.shown ++ told_of one did) (Ok done) =
-      Writes-then stands faults first mid last did.shown (told_of one did) {E = E} (Ok done) shown rest in
-      record { later = all.later; cause = all.still; follows = record { is_answer = refl; is_after = refl; grew = all.outcome } }
-  told {E = E} first mid last (Err failed) shown rest =
-      let all : Writes {E = E} stands faults first last (did.shown ++ told_of one did) (Err failed) =
-      Writes-then stands faults first mid last did.shown (told_of one did) {E = E} (Err failed) shown rest in
+  pub told : {E : Type 0} (mid : D) (now : Situation D) (r : Result (Unit {0}) E) → now.state ≡ did.after →
+      Writes {E = E} outside.stands outside.faults before.sink mid did.shown (Ok tt) →
+      Writes outside.stands outside.faults mid now.sink (told_of one did) r →
+      Follows outside one did before now (come did.answer r)
+  told {E = E} mid now (Ok done) is_after shown rest =
+      let all : Writes {E = E} outside.stands outside.faults before.sink now.sink (did.shown ++ told_of one did) (Ok done) =
+      Writes-then outside.stands outside.faults before.sink mid now.sink did.shown (told_of one did) {E = E} (Ok done) shown rest in
+      record {
+        later = all.later;
+        cause = all.still;
+        follows = record { is_answer = refl; is_after = is_after; grew = all.outcome };
+      }
+  told {E = E} mid now (Err failed) is_after shown rest =
+      let all : Writes {E = E} outside.stands outside.faults before.sink now.sink (did.shown ++ told_of one did) (Err failed) =
+      Writes-then outside.stands outside.faults before.sink mid now.sink did.shown (told_of one did) {E = E} (Err failed) shown rest in
       let front : List ℕ = rest.outcome.0.front in
       record {
         later = all.later;
@@ -102,83 +106,92 @@ module _ {D : Type 0} (stands : D → List ℕ → Type 0) (faults : D → ℕ) 
               rest.outcome.0.rest,
               ap (λ text. did.shown ++ text) rest.outcome.0.split ∙ sym (append_assoc did.shown front rest.outcome.0.rest),
             );
-            grew = Grew-then stands first mid last did.shown front shown.outcome rest.outcome.0.grew;
+            grew = Grew-then outside.stands before.sink mid now.sink did.shown front shown.outcome rest.outcome.0.grew;
           },
-          is_new did.shown front old did.after,
+          subst (λ (left : State). LeftBy (did.shown ++ front) did.shown before.state left did.after) (sym is_after)
+              (is_new did.shown front before.state did.after),
           all.outcome.1,
         );
       }
 
   -- a front of what is shown was written, and the state is as it was
-  module _ (first last : D) (front rest : List ℕ) (later : faults first ≤ faults last) (split : did.shown ≡ front ++ rest) (grew : Grew stands first last front) where
-    abbrev shown_front : WroteFront stands one did first last
+  module _ (now : Situation D) (same : now.state ≡ before.state) (front rest : List ℕ)
+      (later : outside.faults before.sink ≤ outside.faults now.sink) (split : did.shown ≡ front ++ rest)
+      (grew : Grew outside.stands before.sink now.sink front) where
+    abbrev shown_front : WroteFront outside one did before now
     shown_front = record {
       front = front;
       is_front = (rest ++ told_of one did, ap (λ text. text ++ told_of one did) split ∙ append_assoc front rest (told_of one did));
       grew = grew;
     }
 
-    pub cut : Rose (faults first) (faults last) → Follows stands faults one did old old first last WriteFault
-    cut rose = record { later = later; cause = rose; follows = (shown_front, still_old front rest did.shown old did.after split, rose) }
+    pub cut : Rose (outside.faults before.sink) (outside.faults now.sink) → Follows outside one did before now WriteFault
+    cut rose = record {
+      later = later;
+      cause = rose;
+      follows = (
+        shown_front,
+        subst (λ (left : State). LeftBy front did.shown before.state left did.after) (sym same)
+            (still_old front rest did.shown before.state did.after split),
+        rose,
+      );
+    }
 
-    pub out : faults last ≡ faults first → Follows stands faults one did old old first last NoMemory
-    out still = record { later = later; cause = still; follows = (shown_front, refl) }
+    pub out : outside.faults now.sink ≡ outside.faults before.sink → Follows outside one did before now NoMemory
+    out still = record { later = later; cause = still; follows = (shown_front, same) }
 
 -- ---- with the heading
 
-module _ {D : Type 0} (stands : D → List ℕ → Type 0) (faults : D → ℕ) (lists : Bool) (held : List Read → Type 0) (setting : Setting) (k : ℕ) (one : Command) (files_before files_now : ℕ) (runs_before runs_now : List RunOf) (old new : State) (did : Did) (may : MayRun lists held setting one old did) (cause : FileCause (is_read_fault did.answer) files_before files_now) where
-  pub after_heading : {E : Type 0} (first mid last : D) (come : Played) →
-      ((answer : CommandAnswer) → come ≡ Answered answer → lists ≡ false → runs_now ≡ runs_before ++ ran_once did.ran) →
-      Writes {E = E} stands faults first mid (heading k one) (Ok tt) → Follows stands faults one did old new mid last come →
-      IsPlayed stands faults lists held setting k one files_before files_now runs_before runs_now old new first last come
-  after_heading {E = E} first mid last (Answered answer) kept head rest =
-      let all : Grew stands first last (heading k one ++ (did.shown ++ told_of one did)) =
-      Grew-then stands first mid last (heading k one) (did.shown ++ told_of one did) head.outcome rest.follows.grew in
+module _ {D : Type 0} (outside : Outside D) (setting : Setting) (k : ℕ) (one : Command) (before now : Situation D)
+    (did : Did) (may : MayRun outside.lists outside.held setting one before.state did)
+    (cause : FileCause (is_read_fault did.answer) before.files now.files) where
+  -- the heading was written, and a front of the rest
+  abbrev starts : (mid : D) → Grew outside.stands before.sink mid (heading k one) →
+      WroteFront outside one did (record before { sink = mid }) now → Starts outside setting k one before now
+  starts mid head wrote = record {
+    did = did;
+    may = may;
+    front = heading k one ++ wrote.front;
+    is_front = longer_front k one did wrote.front wrote.is_front;
+    grew = Grew-then outside.stands before.sink mid now.sink (heading k one) wrote.front head wrote.grew;
+    by_fault = by_fault (is_read_fault did.answer) before.files now.files cause;
+  }
+
+  pub after_heading : {E : Type 0} (mid : D) (come : Played) →
+      ((answer : CommandAnswer) → come ≡ Answered answer → outside.lists ≡ false → now.runs ≡ before.runs ++ ran_once did.ran) →
+      Writes {E = E} outside.stands outside.faults before.sink mid (heading k one) (Ok tt) →
+      Follows outside one did (record before { sink = mid }) now come → IsPlayed outside setting k one before now come
+  after_heading {E = E} mid (Answered answer) kept head rest =
+      let all : Grew outside.stands before.sink now.sink (heading k one ++ (did.shown ++ told_of one did)) =
+      Grew-then outside.stands before.sink mid now.sink (heading k one) (did.shown ++ told_of one did) head.outcome rest.follows.grew in
       record {
         did = did;
         may = may;
         is_answer = rest.follows.is_answer;
         is_after = rest.follows.is_after;
-        grew = subst (λ text. Grew stands first last text) (sym (parts_of k one did)) all;
-        cause = subst (λ a. FileCause (is_read_fault a) files_before files_now) (sym rest.follows.is_answer) cause;
+        grew = subst (λ text. Grew outside.stands before.sink now.sink text) (sym (parts_of k one did)) all;
+        cause = subst (λ a. FileCause (is_read_fault a) before.files now.files) (sym rest.follows.is_answer) cause;
         kept = kept answer refl;
       }
-  after_heading {E = E} first mid last WriteFault kept head rest =
-      let wrote : WroteFront stands one did mid last = rest.follows.0 in
-      record {
-        did = did;
-        front = heading k one ++ wrote.front;
-        starts = record {
-          may = may;
-          is_front = longer_front k one did wrote.front wrote.is_front;
-          grew = Grew-then stands first mid last (heading k one) wrote.front head.outcome wrote.grew;
-          by_fault = by_fault (is_read_fault did.answer) files_before files_now cause;
-        };
-        left = with_heading (heading k one) wrote.front did.shown old new did.after rest.follows.1;
-        rose = grind (arith, head.later, rest.later, rest.follows.2);
-      }
-  after_heading {E = E} first mid last NoMemory kept head rest =
-      let wrote : WroteFront stands one did mid last = rest.follows.0 in
-      record {
-        did = did;
-        front = heading k one ++ wrote.front;
-        starts = record {
-          may = may;
-          is_front = longer_front k one did wrote.front wrote.is_front;
-          grew = Grew-then stands first mid last (heading k one) wrote.front head.outcome wrote.grew;
-          by_fault = by_fault (is_read_fault did.answer) files_before files_now cause;
-        };
-        same = rest.follows.1;
-      }
+  after_heading {E = E} mid WriteFault kept head rest = record {
+    starts = starts mid head.outcome rest.follows.0;
+    left = with_heading (heading k one) rest.follows.0.front did.shown before.state now.state did.after rest.follows.1;
+    rose = grind (arith, head.later, rest.later, rest.follows.2);
+  }
+  after_heading {E = E} mid NoMemory kept head rest = record {
+    starts = starts mid head.outcome rest.follows.0;
+    same = rest.follows.1;
+  }
 
   -- not even the heading was written, and nothing was done
-  pub no_heading : {E : Type 0} (e : E) (first last : D) → Writes {E = E} stands faults first last (heading k one) (Err e) → new ≡ old →
-      IsPlayed stands faults lists held setting k one files_before files_now runs_before runs_now old new first last WriteFault
-  no_heading e first last head same = record {
-    did = did;
-    front = head.outcome.0.front;
+  pub no_heading : {E : Type 0} (e : E) →
+      Writes {E = E} outside.stands outside.faults before.sink now.sink (heading k one) (Err e) →
+      now.state ≡ before.state → IsPlayed outside setting k one before now WriteFault
+  no_heading e head same = record {
     starts = record {
+      did = did;
       may = may;
+      front = head.outcome.0.front;
       is_front = (
         head.outcome.0.rest ++ (did.shown ++ told_of one did),
         parts_of k one did
@@ -186,10 +199,11 @@ module _ {D : Type 0} (stands : D → List ℕ → Type 0) (faults : D → ℕ) 
             ∙ append_assoc head.outcome.0.front head.outcome.0.rest (did.shown ++ told_of one did),
       );
       grew = head.outcome.0.grew;
-      by_fault = by_fault (is_read_fault did.answer) files_before files_now cause;
+      by_fault = by_fault (is_read_fault did.answer) before.files now.files cause;
     };
-    left = subst (λ (left : State). LeftBy head.outcome.0.front (heading k one ++ did.shown) old left did.after) (sym same)
-        (still_old head.outcome.0.front (head.outcome.0.rest ++ did.shown) (heading k one ++ did.shown) old did.after
+    left = subst
+        (λ (left : State). LeftBy head.outcome.0.front (heading k one ++ did.shown) before.state left did.after) (sym same)
+        (still_old head.outcome.0.front (head.outcome.0.rest ++ did.shown) (heading k one ++ did.shown) before.state did.after
         (ap (λ text. text ++ did.shown) head.outcome.0.split ∙ append_assoc head.outcome.0.front head.outcome.0.rest did.shown));
     rose = head.outcome.1;
   }

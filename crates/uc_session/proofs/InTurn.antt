@@ -6,7 +6,7 @@ use Rattle.std.specs.List.{All}
 use Rattle.uc_io.specs.Faults.{Rose}
 use Rattle.uc_topology.specs.Stated.{Machine, IsPartition}
 use Rattle.file_reads.specs.Reads.{Read, AreHeld}
-use Rattle.rendezvous_rule.specs.Runs.{RunOf, AlwaysRuns}
+use Rattle.rendezvous_rule.specs.Runs.{AlwaysRuns}
 use Rattle.item_text.specs.Items.{item_line}
 use Rattle.script_text.specs.declared.command.Command.{Command}
 use Rattle.script_text.specs.declared.command.Command.TheVariants as command
@@ -16,15 +16,15 @@ use Rattle.session_text.specs.declared.answers.CommandAnswer.TheVariants.{Done, 
 use Rattle.session_text.specs.declared.answers.LoadAnswer.TheVariants as load
 use Rattle.session_text.specs.declared.answers.SessionAnswer.{SessionAnswer}
 use Rattle.session_steps.specs.State.{Setting, State, machine_of, opening_state}
-use Rattle.session_steps.specs.Did.{Did}
 use Rattle.session_steps.specs.Session.{ends_session, is_done, ended_by, answer_by, short_unless}
+use Rattle.session_steps.specs.Calls.{Outside, HeldWhere, Surroundings, Situation, around}
 use Rattle.session_steps.specs.Played.{Answers, Starts}
 use Rattle.session_steps.specs.Whole.{PlaysWhole, PlaysFront, IsPlayedThrough, SinkCauseAt}
 use Rattle.session_laws.specs.Standing.{InRange}
 use Rattle.session_runs.specs.SoFar.{PlayedSoFar}
 use Rattle.session_runs.specs.Laws.{BegunGoesOn}
 use Rattle.session_runs.proofs.Within.{limits_of, beats_in_range}
-use Rattle.session_runs.proofs.Played.{all_played, one_more, last_played, cut_short}
+use Rattle.session_runs.proofs.Played.{with_files, all_played, one_more, last_played, cut_short}
 use Rattle.uc_session.specs.Playing.{BeatsInRange}
 
 -- a count that stood still until a command ended the session
@@ -81,21 +81,14 @@ pub rose_late : (p q r : ℕ) → p ≤ q → q ≤ r → Rose q r → Rose p r
 rose_late p q r first second rose = grind arith
 
 -- a session that a command ended was neither cut short nor wanted memory
-pub through : {D : Type 0} (stands : D → List ℕ → Type 0) (faults : D → ℕ) (lists : Bool) (held : List Read → Type 0)
-    (setting : Setting) (commands : List Command) (files_before files_now : ℕ) (runs_before runs_now : List RunOf)
-    (sink_before sink_now : D) (answer : CommandAnswer) →
-    PlaysWhole stands lists held setting commands files_before files_now runs_before runs_now sink_before sink_now
-    (answer_by (ended_by answer) false) →
-    IsPlayedThrough stands faults lists held setting commands files_before files_now runs_before runs_now sink_before
-    sink_now (answer_by (ended_by answer) false)
-through stands faults lists held setting commands files_before files_now runs_before runs_now sink_before sink_now
-    (Load (load.ReadFault file)) whole = whole
-through stands faults lists held setting commands files_before files_now runs_before runs_now sink_before sink_now
-    (Load (load.BadFile file fault)) whole = whole
-through stands faults lists held setting commands files_before files_now runs_before runs_now sink_before sink_now
-    (Load (load.Panicked t)) whole = whole
-through stands faults lists held setting commands files_before files_now runs_before runs_now sink_before sink_now
-    other whole = whole
+pub through : {D : Type 0} (outside : Outside D) (setting : Setting) (commands : List Command)
+    (before now : Surroundings D) (answer : CommandAnswer) →
+    PlaysWhole outside setting commands before now (answer_by (ended_by answer) false) →
+    IsPlayedThrough outside setting commands before now (answer_by (ended_by answer) false)
+through outside setting commands before now (Load (load.ReadFault file)) whole = whole
+through outside setting commands before now (Load (load.BadFile file fault)) whole = whole
+through outside setting commands before now (Load (load.Panicked t)) whole = whole
+through outside setting commands before now other whole = whole
 
 module _ (commands items : List Command) (same_items : items ≡ commands) (i : ℕ) (one : Command)
     (below_items : i < length items) (is_item : one ≡ get_or items i one) where
@@ -124,113 +117,70 @@ module _ (commands items : List Command) (same_items : items ≡ commands) (i : 
   place : i + 1 ≡ 1 + length (take i commands)
   place = omega (arith, below, length-take i commands)
 
-  module _ {D : Type 0} (stands : D → List ℕ → Type 0) (faults : D → ℕ) (lists : Bool) (tells : Type 0)
-      (holds : List ℕ → List ℕ) (setting setting_now : Setting) (same : setting_now ≡ setting) (done : Bool)
-      (state : State) (files_0 files : ℕ) (runs_0 runs : List RunOf) (sink_0 sink : D)
-      (so_far :
-      PlayedSoFar stands lists tells holds setting (take i commands) done state files_0 files runs_0 runs sink_0 sink)
+  module _ {D : Type 0} (outside : Outside D) (tells : Type 0) (holds : List ℕ → List ℕ)
+      (setting setting_now : Setting) (same : setting_now ≡ setting) (done : Bool)
+      (first : Surroundings D) (now : Situation D)
+      (so_far : PlayedSoFar (with_files outside tells holds) setting (take i commands) done first now)
       (tells_now : Type 0) (holds_now : List ℕ → List ℕ) (still : tells → tells_now) (same_holds : holds_now ≡ holds)
     where
-      abbrev held_now : List Read → Type 0
-      held_now reads = tells_now → AreHeld holds_now reads
+      abbrev whole : Outside D
+      whole = with_files outside tells holds
 
-      held_then : (reads : List Read) → held_now reads → tells → AreHeld holds reads
+      abbrev outside_now : Outside D
+      outside_now = with_files outside tells_now holds_now
+
+      held_then : (reads : List Read) → HeldWhere tells_now holds_now reads → HeldWhere tells holds reads
       held_then reads held told = subst (λ (h : List ℕ → List ℕ). AreHeld h reads) same_holds (held (still told))
 
-      module _ (files_next : ℕ) (runs_next : List RunOf) (next : State) (sink_next : D) (answer : CommandAnswer)
-          (answered :
-          Answers stands lists held_now setting_now (i + 1) one files files_next runs runs_next state next sink
-          sink_next
-          answer)
+      module _ (next : Situation D) (answer : CommandAnswer)
+          (answered : Answers outside_now setting_now (i + 1) one now next answer)
         where
-          answered_here :
-              Answers stands lists held_now setting (i + 1) one files files_next runs runs_next state next sink
-              sink_next answer
+          answered_here : Answers outside_now setting (i + 1) one now next answer
           answered_here =
-              subst (λ (s : Setting).
-              Answers stands lists held_now s (i + 1) one files files_next runs runs_next state next sink sink_next
-              answer)
-              same answered
+              subst (λ (s : Setting). Answers outside_now s (i + 1) one now next answer) same answered
 
           -- the command was answered, and the session goes on
           pub one_more_at : (all : Bool) → all ≡ (done && is_done answer) → ends_session answer ≡ false →
-              PlayedSoFar stands lists tells holds setting (take (i + 1) commands) all next files_0 files_next runs_0
-              runs_next
-              sink_0 sink_next
+              PlayedSoFar whole setting (take (i + 1) commands) all first next
           one_more_at all is_all goes_on =
-              subst (λ (b : Bool).
-              PlayedSoFar stands lists tells holds setting (take (i + 1) commands) b next files_0 files_next runs_0
-              runs_next
-              sink_0 sink_next) (sym is_all)
+              subst (λ (b : Bool). PlayedSoFar whole setting (take (i + 1) commands) b first next) (sym is_all)
               (subst (λ (so_many : List Command).
-              PlayedSoFar stands lists tells holds setting so_many (done && is_done answer) next files_0 files_next
-              runs_0
-              runs_next sink_0 sink_next) more
-              (one_more stands lists tells holds setting files_0 runs_0 sink_0 (take i commands) done state files runs
-              sink
-              so_far (i + 1) place one held_now held_then files_next runs_next next sink_next answer answered_here
-              goes_on))
+              PlayedSoFar whole setting so_many (done && is_done answer) first next) more
+              (one_more outside tells holds setting first (take i commands) done now so_far (i + 1) place one
+              (HeldWhere tells_now holds_now) held_then next answer answered_here goes_on))
 
           -- the command was answered, and ended the session
           pub last_at : (end : SessionAnswer) → ends_session answer ≡ true → end ≡ answer_by (ended_by answer) false →
-              IsPlayedThrough stands faults lists (λ reads. tells → AreHeld holds reads) setting commands files_0
-              files_next
-              runs_0 runs_next sink_0 sink_next end
+              IsPlayedThrough whole setting commands first (around next) end
           last_at end ends is_end =
-              subst (IsPlayedThrough stands faults lists (λ reads. tells → AreHeld holds reads) setting commands files_0
-              files_next runs_0 runs_next sink_0 sink_next) (sym is_end)
-              (through stands faults lists (λ reads. tells → AreHeld holds reads) setting commands files_0 files_next
-              runs_0
-              runs_next sink_0 sink_next answer
+              subst (IsPlayedThrough whole setting commands first (around next)) (sym is_end)
+              (through whole setting commands first (around next) answer
               (subst (λ (all : List Command).
-              PlaysWhole stands lists (λ reads. tells → AreHeld holds reads) setting all files_0 files_next runs_0
-              runs_next
-              sink_0 sink_next (answer_by (ended_by answer) false)) split
-              (last_played stands lists tells holds setting files_0 runs_0 sink_0 (take i commands) done state files
-              runs sink
-              so_far (i + 1) place one held_now held_then files_next runs_next next sink_next answer answered_here ends
-              (drop (suc i) commands))))
+              PlaysWhole whole setting all first (around next) (answer_by (ended_by answer) false)) split
+              (last_played outside tells holds setting first (take i commands) done now so_far (i + 1) place one
+              (HeldWhere tells_now holds_now) held_then next answer answered_here ends (drop (suc i) commands))))
 
       -- the command was begun, and not answered
-      pub cut_at : BegunGoesOn → AlwaysRuns item_line lists → IsPartition setting.machine.stated →
-          All (λ other. InRange setting other) commands → (did : Did) (front : List ℕ) (files_next : ℕ) (sink_next :
-          D) →
-          Starts stands lists held_now setting_now (i + 1) one files files_next state sink sink_next did front →
-          PlaysFront stands lists (λ reads. tells → AreHeld holds reads) setting commands files_0 files_next sink_0
-          sink_next
-      cut_at law always partition within did front files_next sink_next starts =
-          subst (λ (all : List Command).
-          PlaysFront stands lists (λ reads. tells → AreHeld holds reads) setting all files_0 files_next sink_0
-          sink_next)
-          split
-          (cut_short stands lists tells holds setting files_0 runs_0 sink_0 (take i commands) done state files runs sink
-          so_far (i + 1) place one held_now held_then law always partition (drop (suc i) commands) did front files_next
-          sink_next (subst (All (λ other. InRange setting other)) (sym split) within)
-          (subst (λ (s : Setting). Starts stands lists held_now s (i + 1) one files files_next state sink sink_next
-          did front)
-          same starts))
+      pub cut_at : BegunGoesOn → AlwaysRuns item_line outside.lists → IsPartition setting.machine.stated →
+          All (λ other. InRange setting other) commands → (next : Situation D) →
+          Starts outside_now setting_now (i + 1) one now next →
+          PlaysFront whole setting commands first (around next)
+      cut_at law always partition within next starts =
+          subst (λ (all : List Command). PlaysFront whole setting all first (around next)) split
+          (cut_short outside tells holds setting first (take i commands) done now so_far (i + 1) place one
+          (HeldWhere tells_now holds_now) held_then law always partition (drop (suc i) commands) next
+          (subst (All (λ other. InRange setting other)) (sym split) within)
+          (subst (λ (s : Setting). Starts outside_now s (i + 1) one now next) same starts))
 
 -- all commands were answered
-pub all_at : {D : Type 0} (stands : D → List ℕ → Type 0) (lists : Bool) (tells : Type 0)
-    (holds : List ℕ → List ℕ) (setting : Setting) (commands items : List Command) → items ≡ commands →
-    (i : ℕ) (done : Bool) (state : State)
-    (files_0 files : ℕ) (runs_0 runs : List RunOf) (sink_0 sink : D) (answer : SessionAnswer) →
-    length items ≤ i →
-    PlayedSoFar stands lists tells holds setting (take i commands) done state files_0 files runs_0 runs sink_0 sink →
-    short_unless done ≡ answer →
-    PlaysWhole stands lists (λ reads. tells → AreHeld holds reads) setting commands files_0 files runs_0 runs sink_0
-    sink
-    answer
-all_at stands lists tells holds setting commands items same_items i done state files_0 files runs_0 runs sink_0 sink
-    answer
-    past so_far is =
-    subst
-    (PlaysWhole stands lists (λ reads. tells → AreHeld holds reads) setting commands files_0 files runs_0 runs sink_0
-    sink)
-    is
+pub all_at : {D : Type 0} (outside : Outside D) (tells : Type 0) (holds : List ℕ → List ℕ) (setting : Setting)
+    (commands items : List Command) → items ≡ commands → (i : ℕ) (done : Bool) (first : Surroundings D)
+    (now : Situation D) (answer : SessionAnswer) → length items ≤ i →
+    PlayedSoFar (with_files outside tells holds) setting (take i commands) done first now → short_unless done ≡ answer →
+    PlaysWhole (with_files outside tells holds) setting commands first (around now) answer
+all_at outside tells holds setting commands items same_items i done first now answer past so_far is =
+    subst (PlaysWhole (with_files outside tells holds) setting commands first (around now)) is
     (subst (λ (all : List Command).
-    PlaysWhole stands lists (λ reads. tells → AreHeld holds reads) setting all files_0 files runs_0 runs sink_0 sink
-    (short_unless done)) (take_all i commands
-    (subst (λ (all : List Command). length all ≤ i) same_items past))
-    (all_played stands lists tells holds setting files_0 runs_0 sink_0 (take i commands) done state files runs sink
-    so_far))
+    PlaysWhole (with_files outside tells holds) setting all first (around now) (short_unless done))
+    (take_all i commands (subst (λ (all : List Command). length all ≤ i) same_items past))
+    (all_played outside tells holds setting first (take i commands) done now so_far))

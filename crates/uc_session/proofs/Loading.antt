@@ -23,6 +23,7 @@ use Rattle.session_steps.specs.State.{Setting, State, machine_of}
 use Rattle.session_steps.specs.Offers.{AreLoadOffers, SomethingOffered, load_offers_text, plan_of as load_plan}
 use Rattle.session_steps.specs.Did.{results_text, loaded}
 use Rattle.session_steps.specs.Step.{AllPresent, ReadAll, answer_of}
+use Rattle.session_steps.specs.Calls.{Outside, Situation}
 use Rattle.session_laws.specs.Standing.{Standing}
 use Rattle.session_laws.proofs.Parts.{something_is_on}
 use Rattle.command_laws.proofs.Outcomes.{RanLeaves, ran_leaves}
@@ -33,52 +34,58 @@ use Rattle.ctl_core.specs.declared.outcomes.Outcome.{Outcome as OutcomeTables}
 use Rattle.ctl_core.specs.declared.runs.RunAnswer.{RunAnswer}
 use Rattle.ctl_core.specs.Outcomes.{outcome_of}
 use Rattle.uc_session.specs.declared.setting_out.Ready.{Ready}
+use Rattle.uc_session.specs.Acts.{Stage}
 use Rattle.uc_session.specs.Loads.{SetsOut}
-use Rattle.uc_session.specs.Meeting.{CameTo, Meets, cut_short}
+use Rattle.uc_session.specs.Meeting.{RunOutside, RunTraces, CameTo, Meets, cut_short}
 use Rattle.uc_session.specs.Playing.{Does}
 use Rattle.uc_session.proofs.Behind.{come}
-use Rattle.uc_session.proofs.Meeting.{is_stopped, is_met}
+use Rattle.uc_session.proofs.Meeting.{run_outside, traces_of, is_stopped, is_met}
 
 -- what is known once a load has its plan
-pub record Facts (tells : Type 0) (holds : List ℕ → List ℕ) (setting : Setting) (force : Bool) (names : List (List ℕ)) (files_before files_now : ℕ) (old new : State) (ready : Ready) (tables : Tables) : Type 0 where
-  pub sets : SetsOut tells holds setting force names files_before files_now old new ready
-  pub standing : Standing setting old
+pub record Facts (held : List Read → Type 0) (setting : Setting) (force : Bool) (names : List (List ℕ)) (before now : Stage) (ready : Ready) (tables : Tables) : Type 0 where
+  pub sets : SetsOut held setting force names before now ready
+  pub standing : Standing setting before.state
   pub plan_is :
-      (entries : List Entry) (offers : List (Option ℕ)) (before : State) (put : IsPut setting entries offers before new ready.places.items) →
-      plan_of tables ≡ load_plan setting before put.puts offers
+      (entries : List Entry) (offers : List (Option ℕ)) (old : State) (put : IsPut setting entries offers old now.state ready.places.items) →
+      plan_of tables ≡ load_plan setting old put.puts offers
   pub sound_is :
-      (force : Bool) (names : List (List ℕ)) (reads : List Read) (entries : List Entry) (offers : List (Option ℕ)) (before : State) →
-      IsPut setting entries offers before new ready.places.items →
-      Standing setting before → AllPresent setting before → ReadAll names reads entries →
-      AreLoadOffers setting before force entries offers → SomethingOffered offers → IsSound tables
+      (force : Bool) (names : List (List ℕ)) (reads : List Read) (entries : List Entry) (offers : List (Option ℕ)) (old : State) →
+      IsPut setting entries offers old now.state ready.places.items →
+      Standing setting old → AllPresent setting old → ReadAll names reads entries →
+      AreLoadOffers setting old force entries offers → SomethingOffered offers → IsSound tables
   pub padded_law : (p : Tables) → IsSound p → Padded (plan_of p)
 
 -- the same of the setting that the calls before the plan left, and of the places as they were lent
 pub facts :
-    (tells : Type 0) (holds : List ℕ → List ℕ) (setting first : Setting) (force : Bool) (names : List (List ℕ)) (files_before files_now : ℕ) (old new : State) (ready : Ready) (tables : Tables) (places : List (Option PatchId)) →
+    (held : List Read → Type 0) (setting first : Setting) (force : Bool) (names : List (List ℕ)) (before now : Stage) (ready : Ready) (tables : Tables) (places : List (Option PatchId)) →
     setting ≡ first → places ≡ ready.places.items →
-    SetsOut tells holds first force names files_before files_now old new ready → Standing first old →
-    ((entries : List Entry) (offers : List (Option ℕ)) (before : State) (put : IsPut setting entries offers before new places) → plan_of tables ≡ load_plan setting before put.puts offers) →
-    ((force : Bool) (names : List (List ℕ)) (reads : List Read) (entries : List Entry) (offers : List (Option ℕ)) (before : State) → IsPut setting entries offers before new places → Standing setting before → AllPresent setting before → ReadAll names reads entries → AreLoadOffers setting before force entries offers → SomethingOffered offers → IsSound tables) →
+    SetsOut held first force names before now ready → Standing first before.state →
+    ((entries : List Entry) (offers : List (Option ℕ)) (old : State) (put : IsPut setting entries offers old now.state places) → plan_of tables ≡ load_plan setting old put.puts offers) →
+    ((force : Bool) (names : List (List ℕ)) (reads : List Read) (entries : List Entry) (offers : List (Option ℕ)) (old : State) → IsPut setting entries offers old now.state places → Standing setting old → AllPresent setting old → ReadAll names reads entries → AreLoadOffers setting old force entries offers → SomethingOffered offers → IsSound tables) →
     ((p : Tables) → IsSound p → Padded (plan_of p)) →
-    Facts tells holds setting force names files_before files_now old new ready tables
-facts tells holds setting first force names files_before files_now old new ready tables places same lent sets standing plan_is sound_is padded_law = record {
-  sets = subst (λ (s : Setting). SetsOut tells holds s force names files_before files_now old new ready) (sym same) sets;
-  standing = subst (λ (s : Setting). Standing s old) (sym same) standing;
+    Facts held setting force names before now ready tables
+facts held setting first force names before now ready tables places same lent sets standing plan_is sound_is padded_law = record {
+  sets = subst (λ (s : Setting). SetsOut held s force names before now ready) (sym same) sets;
+  standing = subst (λ (s : Setting). Standing s before.state) (sym same) standing;
   plan_is =
-      subst (λ (all : List (Option PatchId)). (entries : List Entry) (offers : List (Option ℕ)) (before : State) (put : IsPut setting entries offers before new all) → plan_of tables ≡ load_plan setting before put.puts offers)
+      subst (λ (all : List (Option PatchId)). (entries : List Entry) (offers : List (Option ℕ)) (old : State) (put : IsPut setting entries offers old now.state all) → plan_of tables ≡ load_plan setting old put.puts offers)
       lent plan_is;
   sound_is =
-      subst (λ (all : List (Option PatchId)). (force : Bool) (names : List (List ℕ)) (reads : List Read) (entries : List Entry) (offers : List (Option ℕ)) (before : State) → IsPut setting entries offers before new all → Standing setting before → AllPresent setting before → ReadAll names reads entries → AreLoadOffers setting before force entries offers → SomethingOffered offers → IsSound tables)
+      subst (λ (all : List (Option PatchId)). (force : Bool) (names : List (List ℕ)) (reads : List Read) (entries : List Entry) (offers : List (Option ℕ)) (old : State) → IsPut setting entries offers old now.state all → Standing setting old → AllPresent setting old → ReadAll names reads entries → AreLoadOffers setting old force entries offers → SomethingOffered offers → IsSound tables)
       lent sound_is;
   padded_law = padded_law;
 }
 
-module _ (lists : Bool) (setting : Setting) (old new : State) (force : Bool) (names : List (List ℕ)) (beats : List Beat)
-    (tells : Type 0) (holds : List ℕ → List ℕ) (files_before files_now : ℕ) (ready : Ready) (tables : Tables)
-    (known : Facts tells holds setting force names files_before files_now old new ready tables) where
-  abbrev sets : SetsOut tells holds setting force names files_before files_now old new ready
+module _ (held : List Read → Type 0) (setting : Setting) (force : Bool) (names : List (List ℕ)) (before now : Stage) (ready : Ready) (tables : Tables)
+    (known : Facts held setting force names before now ready tables) where
+  abbrev sets : SetsOut held setting force names before now ready
   sets = known.sets
+
+  abbrev old : State
+  old = before.state
+
+  abbrev new : State
+  new = now.state
 
   abbrev entries : List Entry
   entries = ready.catalog.entries
@@ -126,34 +133,44 @@ module _ (lists : Bool) (setting : Setting) (old new : State) (force : Bool) (na
   padded : Padded (plan_of tables)
   padded = known.padded_law tables is_sound
 
-  module _ {D : Type 0} (stands : D → List ℕ → Type 0) (faults : D → ℕ) (runs_before runs_now : List RunOf) (first last : D) where
-    abbrev MeetsFor : Result OutcomeTables RunAnswer → Type 0
-    MeetsFor result =
-        (s : Setting) (state : State) (p : Puts) → s.machine ≡ setting.machine → plan_of tables ≡ load_plan s state p offers →
-        Meets stands faults lists (plan_of tables) beats (load_offers_text s state entries offers) runs_before runs_now first last result
+  -- the rendezvous, and what the call finds
+  module _ {D : Type 0} (meanings : RunOutside D) (beats : List Beat) (traces : RunTraces D) where
+    abbrev outside : Outside D
+    outside = record { stands = meanings.stands; faults = meanings.faults; lists = meanings.lists; held = held }
 
-    abbrev DoesSo : State → D → Played → Type 0
-    DoesSo after end come =
-        Does stands faults lists tells holds setting (Load force names beats) files_before files_now runs_before runs_now old after first end come
+    abbrev found : Situation D
+    found = record { state = old; files = before.files; runs = traces.runs; sink = traces.sink }
+
+    -- what it leaves
+    abbrev left : State → List RunOf → D → Situation D
+    left after runs end = record { state = after; files = now.files; runs = runs; sink = end }
+
+    abbrev MeetsFor : List RunOf → D → Result OutcomeTables RunAnswer → Type 0
+    MeetsFor runs last result =
+        (s : Setting) (state : State) (p : Puts) → s.machine ≡ setting.machine → plan_of tables ≡ load_plan s state p offers →
+        Meets (run_outside outside) (plan_of tables) beats (load_offers_text s state entries offers) (traces_of found) (record { runs = runs; sink = last }) result
+
+    abbrev DoesSo : Situation D → Played → Type 0
+    DoesSo end come = Does outside setting (Load force names beats) found end come
 
     -- no outcome came of it, and the state is as it was
-    pub stopped : VerdictHolds → (answer : RunAnswer) → MeetsFor (Err answer) → (after : State) → after ≡ old →
-        DoesSo after last (cut_short answer)
-    stopped verdicts answer meets after same =
-        subst (λ (s : State). DoesSo s last (cut_short answer)) (sym same)
-        (is_stopped lists setting old force names beats sets.reads entries offers puts sets.present sets.read sets.from.are_offers
-        sets.from.something sets.from.put.put (subst Sound is_plan is_sound.sound) (subst Padded is_plan padded) stands faults tells holds
-        sets.held files_before files_now sets.still runs_before runs_now first verdicts last answer
-        (subst (λ (p : Plan). Meets stands faults lists p beats (load_offers_text setting old entries offers) runs_before runs_now first last (Err answer))
-        is_plan (meets setting old puts refl is_plan)))
+    pub stopped : (runs : List RunOf) (last : D) → VerdictHolds → (answer : RunAnswer) → MeetsFor runs last (Err answer) →
+        (after : State) → after ≡ old → DoesSo (left after runs last) (cut_short answer)
+    stopped runs last verdicts answer meets after same =
+        is_stopped outside setting found force names beats sets.reads entries offers puts sets.present sets.read sets.from.are_offers
+        sets.from.something sets.from.put.put (subst Sound is_plan is_sound.sound) (subst Padded is_plan padded) sets.is_held
+        verdicts (left after runs last) sets.still same answer
+        (subst (λ (p : Plan). Meets (run_outside outside) p beats (load_offers_text setting old entries offers) (traces_of found) (record { runs = runs; sink = last }) (Err answer))
+        is_plan (meets setting old puts refl is_plan))
 
-    module _ (law : EventLaw) (opens : OpeningIsLawful) (outcome : OutcomeTables) (meets : MeetsFor (Ok outcome)) where
-      came : CameTo stands faults lists (plan_of tables) beats (load_offers_text setting old entries offers) runs_before runs_now first last (outcome_of outcome)
+    module _ (runs : List RunOf) (last : D) (law : EventLaw) (opens : OpeningIsLawful) (outcome : OutcomeTables)
+        (meets : MeetsFor runs last (Ok outcome)) where
+      came : CameTo (run_outside outside) (plan_of tables) beats (load_offers_text setting old entries offers) (traces_of found) (record { runs = runs; sink = last }) (outcome_of outcome)
       came = meets setting old puts refl is_plan
 
       leaves : RanLeaves (plan_of tables) (outcome_of outcome)
       leaves =
-          ran_leaves law opens item_line lists (plan_of tables) beats came.items (outcome_of outcome) came.late is_sound.sound
+          ran_leaves law opens item_line meanings.lists (plan_of tables) beats came.items (outcome_of outcome) came.late is_sound.sound
           padded came.ran
 
       pub ends_count : length outcome.ends.items ≡ tables.threads
@@ -165,7 +182,7 @@ module _ (lists : Bool) (setting : Setting) (old new : State) (force : Bool) (na
       pub revs_count : length outcome.revs.items ≡ (machine_of setting).groups
       revs_count = leaves.a_revision_each ∙ groups_are
 
-      pub no_lower : RanGrows item_line lists → (g : ℕ) → g < (machine_of setting).groups →
+      pub no_lower : RanGrows item_line meanings.lists → (g : ℕ) → g < (machine_of setting).groups →
           new.hardware.rev g ≤ slice_index outcome.revs.items g
       no_lower grows g below =
           subst (λ (n : ℕ). n ≤ slice_index outcome.revs.items g)
@@ -174,17 +191,16 @@ module _ (lists : Bool) (setting : Setting) (old new : State) (force : Bool) (na
           (subst (λ (n : ℕ). g < n) (sym groups_are) below))
 
       -- the threads met, and the state is what they leave
-      pub finished : {E : Type 0} (found : Verdict) (end : D) (r : Result (Unit {0}) E) (after : State) →
-          LoadVerdict (plan_of tables) (outcome_of outcome) found →
+      pub finished : {E : Type 0} (verdict : Verdict) (end : D) (r : Result (Unit {0}) E) (after : State) →
+          LoadVerdict (plan_of tables) (outcome_of outcome) verdict →
           after ≡ loaded setting old puts offers (plan_of tables) (outcome_of outcome) →
-          Writes stands faults last end (results_text setting old (plan_of tables) (outcome_of outcome) ++ answer_line names (answer_of found)) r →
-          DoesSo after end (come (answer_of found) r)
-      finished {E = E} found end r after holds_of is wrote =
-          subst (λ (s : State). DoesSo s end (come (answer_of found) r))
-          (sym (is ∙ ap (λ (p : Plan). loaded setting old puts offers p (outcome_of outcome)) is_plan))
-          (is_met lists setting old force names beats sets.reads entries offers puts sets.present sets.read sets.from.are_offers
-          sets.from.something sets.from.put.put (subst Sound is_plan is_sound.sound) (subst Padded is_plan padded) stands faults tells holds
-          sets.held files_before files_now sets.still runs_before runs_now first {E = E} last end (outcome_of outcome) found r
-          (subst (λ (p : Plan). CameTo stands faults lists p beats (load_offers_text setting old entries offers) runs_before runs_now first last (outcome_of outcome)) is_plan came)
-          (subst (λ (p : Plan). LoadVerdict p (outcome_of outcome) found) is_plan holds_of)
-          (subst (λ (p : Plan). Writes stands faults last end (results_text setting old p (outcome_of outcome) ++ answer_line names (answer_of found)) r) is_plan wrote))
+          Writes meanings.stands meanings.faults last end (results_text setting old (plan_of tables) (outcome_of outcome) ++ answer_line names (answer_of verdict)) r →
+          DoesSo (left after runs end) (come (answer_of verdict) r)
+      finished {E = E} verdict end r after holds_of is wrote =
+          is_met outside setting found force names beats sets.reads entries offers puts sets.present sets.read sets.from.are_offers
+          sets.from.something sets.from.put.put (subst Sound is_plan is_sound.sound) (subst Padded is_plan padded) sets.is_held
+          {E = E} last (left after runs end) sets.still (outcome_of outcome) verdict r
+          (subst (λ (p : Plan). CameTo (run_outside outside) p beats (load_offers_text setting old entries offers) (traces_of found) (record { runs = runs; sink = last }) (outcome_of outcome)) is_plan came)
+          (subst (λ (p : Plan). LoadVerdict p (outcome_of outcome) verdict) is_plan holds_of)
+          (is ∙ ap (λ (p : Plan). loaded setting old puts offers p (outcome_of outcome)) is_plan)
+          (subst (λ (p : Plan). Writes meanings.stands meanings.faults last end (results_text setting old p (outcome_of outcome) ++ answer_line names (answer_of verdict)) r) is_plan wrote)

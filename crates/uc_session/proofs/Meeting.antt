@@ -4,7 +4,7 @@ use Rattle.uc_io.specs.Faults.{Rose}
 use Rattle.uc_io.specs.Writing.{Writes}
 use Rattle.uc_io.proofs.Writes.{Grew-then, Writes-then}
 use Rattle.file_entries.specs.Entry.{Entry}
-use Rattle.file_reads.specs.Reads.{Read, AreHeld}
+use Rattle.file_reads.specs.Reads.{Read}
 use Rattle.rendezvous_steps.specs.declared.ends.Beat.{Beat}
 use Rattle.rendezvous_steps.specs.Plan.{Plan, Sound}
 use Rattle.rendezvous_steps.specs.Padded.{Padded}
@@ -27,24 +27,25 @@ use Rattle.session_steps.specs.Offers.{AreLoadOffers, SomethingOffered, load_off
 use Rattle.session_steps.specs.Did.{Did, results_text, loaded}
 use Rattle.session_steps.specs.Step as rows
 use Rattle.session_steps.specs.Step.{SessionStep, LoadRow, AllPresent, ReadAll, answer_of, met, run_of}
+use Rattle.session_steps.specs.Calls.{Outside, Situation}
 use Rattle.session_steps.specs.Played.{is_read_fault, FileCause, ran_once}
 use Rattle.session_parts.specs.Boots.{puts_of}
 use Rattle.ctl_core.specs.declared.outcomes.Outcome.{Outcome as Tables}
 use Rattle.ctl_core.specs.declared.runs.RunAnswer.{RunAnswer}
 use Rattle.ctl_core.specs.declared.runs.RunAnswer.TheVariants as run
 use Rattle.ctl_core.specs.Runs.{IsRun}
-use Rattle.uc_session.specs.Meeting.{CameTo, CutShort, Meets, cut_short}
+use Rattle.uc_session.specs.Meeting.{RunOutside, RunTraces, CameTo, CutShort, Meets, cut_short}
 use Rattle.uc_session.specs.Playing.{told_of, Follows, Does}
 use Rattle.uc_session.proofs.Behind as playing
 use Rattle.uc_session.proofs.Behind.{come}
 
 -- ---- what is offered, and the run
 
-module _ {D : Type 0} (stands : D → List ℕ → Type 0) (faults : D → ℕ) (lists : Bool) (plan : Plan) (beats : List Beat) (offered : List ℕ) where
+module _ {D : Type 0} (outside : RunOutside D) (plan : Plan) (beats : List Beat) (offered : List ℕ) where
   -- what is offered was not all written
-  pub not_offered : {E : Type 0} (e : E) (before now : D) → SomeRun item_line lists plan beats →
-      Writes {E = E} stands faults before now offered (Err e) →
-      CutShort stands faults lists plan beats offered before now × Rose (faults before) (faults now)
+  pub not_offered : {E : Type 0} (e : E) (before now : D) → SomeRun item_line outside.lists plan beats →
+      Writes {E = E} outside.stands outside.faults before now offered (Err e) →
+      CutShort outside plan beats offered before now × Rose (outside.faults before) (outside.faults now)
   not_offered e before now some wrote = (
     record {
       run = some;
@@ -61,21 +62,21 @@ module _ {D : Type 0} (stands : D → List ℕ → Type 0) (faults : D → ℕ) 
   )
 
   -- it was written, and then the threads met
-  pub they_met : {E : Type 0} (runs_before runs_now : List RunOf) (before mid now : D) (result : Result Tables RunAnswer) →
-      SomeRun item_line lists plan beats →
-      Writes {E = E} stands faults before mid offered (Ok tt) →
-      IsRun stands faults lists plan beats runs_before runs_now mid now result →
-      Meets stands faults lists plan beats offered runs_before runs_now before now result
-  they_met {E = E} runs_before runs_now before mid now (Ok outcome) some wrote is = record {
+  pub they_met : {E : Type 0} (before now : RunTraces D) (mid : D) (result : Result Tables RunAnswer) →
+      SomeRun item_line outside.lists plan beats →
+      Writes {E = E} outside.stands outside.faults before.sink mid offered (Ok tt) →
+      IsRun outside.stands outside.faults outside.lists plan beats before.runs now.runs mid now.sink result →
+      Meets outside plan beats offered before now result
+  they_met {E = E} before now mid (Ok outcome) some wrote is = record {
     items = is.answer.text;
     late = is.answer.late;
     ran = is.answer.ran;
-    wrote = Writes-then stands faults before mid now offered is.answer.text {E = Unit {0}} (Ok tt)
+    wrote = Writes-then outside.stands outside.faults before.sink mid now.sink offered is.answer.text {E = Unit {0}} (Ok tt)
         (record { later = wrote.later; still = wrote.still; outcome = wrote.outcome })
         (record { later = is.later; still = is.still; outcome = is.answer.grew });
     kept = is.answer.kept;
   }
-  they_met {E = E} runs_before runs_now before mid now (Err run.WriteFault) some wrote is =
+  they_met {E = E} before now mid (Err run.WriteFault) some wrote is =
       let front : List ℕ = is.answer.front.front in (
         record {
           run = is.answer.run;
@@ -85,13 +86,13 @@ module _ {D : Type 0} (stands : D → List ℕ → Type 0) (faults : D → ℕ) 
             ap (λ text. offered ++ text) is.answer.front.split ∙ sym (append_assoc offered front is.answer.front.rest),
           );
           later = omega (arith, wrote.later, is.later);
-          grew = Grew-then stands before mid now offered front wrote.outcome is.answer.front.grew;
+          grew = Grew-then outside.stands before.sink mid now.sink offered front wrote.outcome is.answer.front.grew;
         },
         grind (arith, wrote.later, is.later, is.answer.rose),
       )
-  they_met {E = E} runs_before runs_now before mid now (Err run.NoMemory) some wrote is =
-      let grew : Writes {E = E} stands faults before now offered (Ok tt) =
-      subst (λ (last : D). Writes {E = E} stands faults before last offered (Ok tt)) (sym is.answer.same_sink) wrote in (
+  they_met {E = E} before now mid (Err run.NoMemory) some wrote is =
+      let grew : Writes {E = E} outside.stands outside.faults before.sink now.sink offered (Ok tt) =
+      subst (λ (last : D). Writes {E = E} outside.stands outside.faults before.sink last offered (Ok tt)) (sym is.answer.same_sink) wrote in (
         record {
           run = some;
           front = offered;
@@ -104,8 +105,21 @@ module _ {D : Type 0} (stands : D → List ℕ → Type 0) (faults : D → ℕ) 
 
 -- ---- the load
 
-module _ (lists : Bool) (setting : Setting) (old : State) (force : Bool) (names : List (List ℕ)) (beats : List Beat)
-    (reads : List Read) (entries : List Entry) (offers : List (Option ℕ)) (puts : Puts) where
+-- a rendezvous has the outside of its session, and what a call finds and leaves is what its runs do
+abbrev pub run_outside : {D : Type 0} → Outside D → RunOutside D
+run_outside outside = record { stands = outside.stands; faults = outside.faults; lists = outside.lists }
+
+abbrev pub traces_of : {D : Type 0} → Situation D → RunTraces D
+traces_of now = record { runs = now.runs; sink = now.sink }
+
+module _ {D : Type 0} (outside : Outside D) (setting : Setting) (before : Situation D) (force : Bool) (names : List (List ℕ))
+    (beats : List Beat) (reads : List Read) (entries : List Entry) (offers : List (Option ℕ)) (puts : Puts) where
+  abbrev lists : Bool
+  lists = outside.lists
+
+  abbrev old : State
+  old = before.state
+
   abbrev plan : Plan
   plan = plan_of setting old puts offers
 
@@ -205,28 +219,23 @@ module _ (lists : Bool) (setting : Setting) (old : State) (force : Bool) (names 
 
     -- ---- the call
 
-    module _ {D : Type 0} (stands : D → List ℕ → Type 0) (faults : D → ℕ) (tells : Type 0) (holds : List ℕ → List ℕ)
-        (held : tells → AreHeld holds reads) (files_before files_now : ℕ) (still : files_now ≡ files_before)
-        (runs_before runs_now : List RunOf) (before : D) where
+    module _ (is_held : outside.held reads) where
       abbrev offered : List ℕ
       offered = load_offers_text setting old entries offers
 
-      abbrev Done : State → D → Played → Type 0
-      Done new now come =
-          Does stands faults lists tells holds setting one files_before files_now runs_before runs_now old new before now come
-
-      cause_of : (items : List ℕ) (outcome : Outcome) (late : Bool) (found : Verdict) →
-          FileCause (is_read_fault (load_did items outcome late (answer_of found)).answer) files_before files_now
-      cause_of items outcome late found =
-          subst (λ (unread : Bool). FileCause unread files_before files_now)
+      cause_of : (now : Situation D) → now.files ≡ before.files →
+          (items : List ℕ) (outcome : Outcome) (late : Bool) (found : Verdict) →
+          FileCause (is_read_fault (load_did items outcome late (answer_of found)).answer) before.files now.files
+      cause_of now still items outcome late found =
+          subst (λ (unread : Bool). FileCause unread before.files now.files)
           (sym (ap is_read_fault (answer_is items outcome late (answer_of found)) ∙ never_unread found)) still
 
-      held_of : (items : List ℕ) (outcome : Outcome) (late : Bool) (answer : CommandAnswer) → tells →
-          AreHeld holds (load_did items outcome late answer).reads
-      held_of items outcome late answer told =
-          subst (λ (all : List Read). AreHeld holds all) (sym (reads_are items outcome late answer)) (held told)
+      held_of : (items : List ℕ) (outcome : Outcome) (late : Bool) (answer : CommandAnswer) →
+          outside.held (load_did items outcome late answer).reads
+      held_of items outcome late answer = subst outside.held (sym (reads_are items outcome late answer)) is_held
 
-      module _ (verdicts : VerdictHolds) (now : D) (cut : CutShort stands faults lists plan beats offered before now) where
+      module _ (verdicts : VerdictHolds) (now : Situation D) (still : now.files ≡ before.files) (same : now.state ≡ old)
+          (cut : CutShort (run_outside outside) plan beats offered before.sink now.sink) where
         abbrev found : Verdict
         found = load_verdict plan cut.run.outcome
 
@@ -234,12 +243,12 @@ module _ (lists : Bool) (setting : Setting) (old : State) (force : Bool) (names 
         did = load_did cut.run.text cut.run.outcome cut.run.late (answer_of found)
 
         stops : (come : Played) → ((answer : CommandAnswer) → come ≡ Answered answer → ⊥) →
-            Follows stands faults one did old old before now come → Done old now come
+            Follows outside one did before now come → Does outside setting one before now come
         stops come never follows = record {
           did = did;
           step = load_step cut.run.text cut.run.outcome cut.run.late found cut.run.ran (verdicts plan cut.run.outcome);
-          held = held_of cut.run.text cut.run.outcome cut.run.late (answer_of found);
-          cause = cause_of cut.run.text cut.run.outcome cut.run.late found;
+          is_held = held_of cut.run.text cut.run.outcome cut.run.late (answer_of found);
+          cause = cause_of now still cut.run.text cut.run.outcome cut.run.late found;
           rest = follows;
           kept = λ answer is. absurd (never answer is);
         }
@@ -248,52 +257,52 @@ module _ (lists : Bool) (setting : Setting) (old : State) (force : Bool) (names 
         split = shown_is cut.run.text cut.run.outcome cut.run.late (answer_of found) ∙ cut.is_front.1
 
         -- not all was written of what a load shows, and the state is as it was
-        pub is_cut : Rose (faults before) (faults now) → Done old now WriteFault
+        pub is_cut : Rose (outside.faults before.sink) (outside.faults now.sink) → Does outside setting one before now WriteFault
         is_cut rose =
             stops WriteFault (λ answer is. cc)
-            (playing.cut stands faults one did old before now cut.front cut.is_front.0 cut.later split cut.grew rose)
+            (playing.cut outside one did before now same cut.front cut.is_front.0 cut.later split cut.grew rose)
 
         -- memory ran out
-        pub is_out : faults now ≡ faults before → Done old now NoMemory
-        is_out still =
+        pub is_out : outside.faults now.sink ≡ outside.faults before.sink → Does outside setting one before now NoMemory
+        is_out no_fault =
             stops NoMemory (λ answer is. cc)
-            (playing.out stands faults one did old before now cut.front cut.is_front.0 cut.later split cut.grew still)
+            (playing.out outside one did before now same cut.front cut.is_front.0 cut.later split cut.grew no_fault)
 
       -- no outcome came of it
-      pub is_stopped : VerdictHolds → (now : D) (answer : RunAnswer) →
-          Meets stands faults lists plan beats offered runs_before runs_now before now (Err answer) →
-          Done old now (cut_short answer)
-      is_stopped verdicts now run.WriteFault is = is_cut verdicts now is.0 is.1
-      is_stopped verdicts now run.NoMemory is = is_out verdicts now is.0 is.1
+      pub is_stopped : VerdictHolds → (now : Situation D) → now.files ≡ before.files → now.state ≡ old → (answer : RunAnswer) →
+          Meets (run_outside outside) plan beats offered (traces_of before) (traces_of now) (Err answer) →
+          Does outside setting one before now (cut_short answer)
+      is_stopped verdicts now still same run.WriteFault is = is_cut verdicts now still same is.0 is.1
+      is_stopped verdicts now still same run.NoMemory is = is_out verdicts now still same is.0 is.1
 
       -- the threads met, the state has changed, and the rest was written, or not all of it
-      pub is_met : {E : Type 0} (mid now : D) (outcome : Outcome) (found : Verdict) (r : Result (Unit {0}) E) →
-          (came : CameTo stands faults lists plan beats offered runs_before runs_now before mid outcome) →
-          LoadVerdict plan outcome found →
-          Writes stands faults mid now (results_text setting old plan outcome ++ answer_line names (answer_of found)) r →
-          Done (loaded setting old puts offers plan outcome) now (come (answer_of found) r)
-      is_met {E = E} mid now outcome found r came holds_of wrote =
+      pub is_met : {E : Type 0} (mid : D) (now : Situation D) → now.files ≡ before.files →
+          (outcome : Outcome) (found : Verdict) (r : Result (Unit {0}) E) →
+          (came : CameTo (run_outside outside) plan beats offered (traces_of before) (record { runs = now.runs; sink = mid }) outcome) →
+          LoadVerdict plan outcome found → now.state ≡ loaded setting old puts offers plan outcome →
+          Writes outside.stands outside.faults mid now.sink (results_text setting old plan outcome ++ answer_line names (answer_of found)) r →
+          Does outside setting one before now (come (answer_of found) r)
+      is_met {E = E} mid now still outcome found r came holds_of is_after wrote =
           let made : Did = load_did came.items outcome came.late (answer_of found) in
           let same : told_of one made ≡ results_text setting old plan outcome ++ answer_line names (answer_of found) =
           ap (λ told. told ++ answer_line names made.answer) (told_is came.items outcome came.late (answer_of found))
           ∙ ap (λ (a : CommandAnswer). results_text setting old plan outcome ++ answer_line names a)
           (answer_is came.items outcome came.late (answer_of found)) in
-          let rest : Follows stands faults one made old made.after before now (come made.answer r) =
-          playing.told stands faults one made old before mid now r
-          (subst (λ text. Writes {E = E} stands faults before mid text (Ok tt)) (sym (shown_is came.items outcome came.late (answer_of found)))
+          let rest : Follows outside one made before now (come made.answer r) =
+          playing.told outside one made before mid now r
+          (is_after ∙ sym (after_is came.items outcome came.late (answer_of found)))
+          (subst (λ text. Writes {E = E} outside.stands outside.faults before.sink mid text (Ok tt)) (sym (shown_is came.items outcome came.late (answer_of found)))
           (record { later = came.wrote.later; still = came.wrote.still; outcome = came.wrote.outcome }))
-          (subst (λ text. Writes stands faults mid now text r) (sym same) wrote) in
+          (subst (λ text. Writes outside.stands outside.faults mid now.sink text r) (sym same) wrote) in
           record {
             did = made;
             step = load_step came.items outcome came.late found came.ran holds_of;
-            held = held_of came.items outcome came.late (answer_of found);
-            cause = cause_of came.items outcome came.late found;
+            is_held = held_of came.items outcome came.late (answer_of found);
+            cause = cause_of now still came.items outcome came.late found;
             rest =
-                subst (λ (a : CommandAnswer). Follows stands faults one made old (loaded setting old puts offers plan outcome) before now (come a r))
-                (answer_is came.items outcome came.late (answer_of found))
-                (subst (λ (after : State). Follows stands faults one made old after before now (come made.answer r))
-                (after_is came.items outcome came.late (answer_of found)) rest);
+                subst (λ (a : CommandAnswer). Follows outside one made before now (come a r))
+                (answer_is came.items outcome came.late (answer_of found)) rest;
             kept = λ answer is unlisted.
                 came.kept unlisted
-                ∙ ap (λ (ran : Option RunOf). runs_before ++ ran_once ran) (sym (ran_is came.items outcome came.late (answer_of found)));
+                ∙ ap (λ (ran : Option RunOf). before.runs ++ ran_once ran) (sym (ran_is came.items outcome came.late (answer_of found)));
           }

@@ -9,51 +9,57 @@ use Rattle.update_reads.specs.Reading.{IsOfFiles, UnreadAt, RefusedAt}
 use Rattle.update_reads.proofs.Files.{all_entries}
 use Rattle.uc_catalog.specs.Contents.{Contents}
 use Rattle.session_text.specs.declared.answers.LoadAnswer.TheVariants as load
-use Rattle.session_steps.specs.State.{Setting, State, first_missing}
+use Rattle.session_steps.specs.State.{Setting, first_missing}
 use Rattle.session_steps.specs.Step.{AllPresent, ReadAll}
+use Rattle.session_steps.specs.Calls.{HeldWhere}
 use Rattle.uc_session.specs.declared.setting_out.Ready.{Ready}
 use Rattle.uc_session.specs.declared.setting_out.Stop.{Stop}
 use Rattle.uc_session.specs.declared.setting_out.Stop.TheVariants.{Answer, NoMemory}
+use Rattle.uc_session.specs.Acts.{Stage}
 use Rattle.uc_session.specs.Loads.{SetsOut, SetsOutFrom, StopsFrom, Refuses, Stops}
 
-module _ (tells : Type 0) (holds : List ℕ → List ℕ) (setting : Setting) (force : Bool) (names : List (List ℕ)) (before now : ℕ) (old : State) where
-  pub busy : (t : ℕ) → first_missing setting old ≡ Some t → now ≡ before →
-      Refuses tells holds setting force names before now old (load.Busy t)
-  busy t missing still = record {
+module _ (tells : Type 0) (holds : List ℕ → List ℕ) (setting : Setting) (force : Bool) (names : List (List ℕ)) (before now : Stage) where
+  pub busy : (t : ℕ) → first_missing setting before.state ≡ Some t → now.files ≡ before.files →
+      now.state ≡ before.state → Refuses (HeldWhere tells holds) setting force names before now (load.Busy t)
+  busy t missing still same = record {
     reads = [];
-    held = λ told. All-nil (λ (read : Read). read.bytes ≡ holds read.name);
+    is_held = λ told. All-nil (λ (read : Read). read.bytes ≡ holds read.name);
     step = λ lists beats. (missing, refl);
     cause = still;
+    same = same;
   }
 
-  module _ (present : AllPresent setting old) where
-    pub unread : (file : ℕ) → Rose before now → UnreadAt tells names holds file →
-        Refuses tells holds setting force names before now old (load.ReadFault file)
-    unread file rose is = record {
+  module _ (present : AllPresent setting before.state) where
+    pub unread : (file : ℕ) → Rose before.files now.files → UnreadAt tells names holds file →
+        now.state ≡ before.state → Refuses (HeldWhere tells holds) setting force names before now (load.ReadFault file)
+    unread file rose is same = record {
       reads = is.reads;
-      held = is.held;
+      is_held = is.held;
       step = λ lists beats. (present, record { name = is.name; come = is.come; place = is.place; did_only = refl });
       cause = rose;
+      same = same;
     }
 
-    pub bad : (file : ℕ) (fault : FileFault) → now ≡ before → RefusedAt tells names holds file fault →
-        Refuses tells holds setting force names before now old (load.BadFile file fault)
-    bad file fault still is = record {
+    pub bad : (file : ℕ) (fault : FileFault) → now.files ≡ before.files → RefusedAt tells names holds file fault →
+        now.state ≡ before.state → Refuses (HeldWhere tells holds) setting force names before now (load.BadFile file fault)
+    bad file fault still is same = record {
       reads = is.reads;
-      held = is.held;
+      is_held = is.held;
       step = λ lists beats. (present, record { name = is.name; come = is.come; place = is.place; did_only = refl });
       cause = still;
+      same = same;
     }
 
-    module _ (contents : Contents) (still : now ≡ before) (read : IsOfFiles tells names holds contents) (keep : contents.keeps ≡ true) where
+    module _ (contents : Contents) (still : now.files ≡ before.files) (read : IsOfFiles tells names holds contents) (keep : contents.keeps ≡ true) where
       all_read : ReadAll names read.reads contents.entries
       all_read = record { readings = read.readings; come = (read.in_order, read.accepted); all = all_entries tells names holds contents read keep }
 
       -- nothing is offered, or it does not fit
-      pub stops : (stop : Stop) → StopsFrom setting force contents old stop → Stops tells holds setting force names before now old stop
-      stops (Answer load.NotFound) is = record {
+      pub stops : (stop : Stop) → StopsFrom setting force contents before.state stop → now.state ≡ before.state →
+          Stops (HeldWhere tells holds) setting force names before now stop
+      stops (Answer load.NotFound) is same = record {
         reads = read.reads;
-        held = read.held;
+        is_held = read.held;
         step = λ lists beats. (
           present,
           record {
@@ -66,10 +72,11 @@ module _ (tells : Type 0) (holds : List ℕ → List ℕ) (setting : Setting) (f
           },
         );
         cause = still;
+        same = same;
       }
-      stops (Answer (load.PoolFull needed)) is = record {
+      stops (Answer (load.PoolFull needed)) is same = record {
         reads = read.reads;
-        held = read.held;
+        is_held = read.held;
         step = λ lists beats. (
           present,
           record {
@@ -83,34 +90,38 @@ module _ (tells : Type 0) (holds : List ℕ → List ℕ) (setting : Setting) (f
           },
         );
         cause = still;
+        same = same;
       }
-      stops (Answer load.Done) is = absurd is
-      stops (Answer (load.Busy t)) is = absurd is
-      stops (Answer (load.ReadFault file)) is = absurd is
-      stops (Answer (load.BadFile file fault)) is = absurd is
-      stops (Answer (load.Panicked t)) is = absurd is
-      stops (Answer (load.Unfinished t)) is = absurd is
-      stops (Answer (load.OfflineSilent kicks)) is = absurd is
-      stops (Answer (load.TimedOut t)) is = absurd is
-      stops (Answer (load.Failed t)) is = absurd is
-      stops (Answer (load.Incomplete t)) is = absurd is
-      stops NoMemory is = absurd is
+      stops (Answer load.Done) is same = absurd is
+      stops (Answer (load.Busy t)) is same = absurd is
+      stops (Answer (load.ReadFault file)) is same = absurd is
+      stops (Answer (load.BadFile file fault)) is same = absurd is
+      stops (Answer (load.Panicked t)) is same = absurd is
+      stops (Answer (load.Unfinished t)) is same = absurd is
+      stops (Answer (load.OfflineSilent kicks)) is same = absurd is
+      stops (Answer (load.TimedOut t)) is same = absurd is
+      stops (Answer (load.Failed t)) is same = absurd is
+      stops (Answer (load.Incomplete t)) is same = absurd is
+      stops NoMemory is same = absurd is
 
       -- something is offered, and it was put
-      pub sets_out : (new : State) (ready : Ready) → SetsOutFrom setting force contents old new ready →
-          SetsOut tells holds setting force names before now old new ready
-      sets_out new ready is = record {
+      pub sets_out : (ready : Ready) → SetsOutFrom setting force contents before.state now.state ready →
+          SetsOut (HeldWhere tells holds) setting force names before now ready
+      sets_out ready is = record {
         reads = read.reads;
-        held = read.held;
+        is_held = read.held;
         still = still;
         present = present;
         read = subst (λ (all : Contents). ReadAll names read.reads all.entries) (sym is.catalog) all_read;
-        from = subst (λ (all : Contents). SetsOutFrom setting force all old new ready) (sym is.catalog) is;
+        from =
+            subst (λ (all : Contents). SetsOutFrom setting force all before.state now.state ready) (sym is.catalog) is;
       }
 
       -- what a load comes to that goes by what is offered of them
-      pub goes_on : (new : State) (result : Result Ready Stop)
-          → MatchResult result (SetsOutFrom setting force contents old new) (λ stop. StopsFrom setting force contents old stop × (new ≡ old))
-          → MatchResult result (SetsOut tells holds setting force names before now old new) (λ stop. Stops tells holds setting force names before now old stop × (new ≡ old))
-      goes_on new (Ok ready) is = sets_out new ready is
-      goes_on new (Err stop) is = (stops stop is.0, is.1)
+      pub goes_on : (result : Result Ready Stop)
+          → MatchResult result (SetsOutFrom setting force contents before.state now.state)
+          (λ stop. StopsFrom setting force contents before.state stop × (now.state ≡ before.state))
+          → MatchResult result (SetsOut (HeldWhere tells holds) setting force names before now)
+          (Stops (HeldWhere tells holds) setting force names before now)
+      goes_on (Ok ready) is = sets_out ready is
+      goes_on (Err stop) is = stops stop is.0 is.1

@@ -1,66 +1,71 @@
 -- What a call came to that does a command in which no rendezvous ran, or is cut short before anything was done.
-use Rattle.std.proofs.Common.{◌≡◌, ℕ, Bool, List, [], ◌++◌, Ok, Err, refl, sym, subst, arith, append-nil}
+use Rattle.std.proofs.Common.{◌≡◌, ℕ, Bool, List, [], ◌++◌, Ok, Err, refl, sym, ◌∙◌, subst, arith, append-nil}
 use Rattle.uc_io.specs.Writing.{Writes}
 use Rattle.file_reads.specs.Reads.{Read, AreHeld}
-use Rattle.rendezvous_rule.specs.Runs.{RunOf}
 use Rattle.script_text.specs.declared.command.Command.{Command}
 use Rattle.session_text.specs.Lines.{answer_line}
 use Rattle.session_text.specs.declared.answers.Played.{Played}
 use Rattle.session_text.specs.declared.answers.Played.TheVariants.{Answered, WriteFault, NoMemory}
-use Rattle.session_steps.specs.State.{Setting, State}
+use Rattle.session_steps.specs.State.{Setting}
 use Rattle.session_steps.specs.Did.{ups_text}
 use Rattle.session_steps.specs.Session.{heading, names_in}
+use Rattle.session_steps.specs.Calls.{Outside, Situation}
 use Rattle.session_steps.specs.Played.{FileCause, IsPlayed}
 use Rattle.command_laws.specs.Steps.{SomeStep}
 use Rattle.uc_session.specs.declared.acted.Acted.{Acted}
-use Rattle.uc_session.specs.Acts.{Acts, did_by}
+use Rattle.uc_session.specs.Acts.{Stage, Acts, did_by}
 use Rattle.uc_session.specs.Playing.{told_of, Tells, Follows, Does}
 use Rattle.uc_session.proofs.Behind.{is_new, after_heading, no_heading}
 
-module _ {D : Type 0} (stands : D → List ℕ → Type 0) (faults : D → ℕ) (lists : Bool) (tells : Type 0) (holds : List ℕ → List ℕ) (setting : Setting) (one : Command) (files_before files_now : ℕ) (old new : State) where
+-- what a call finds or leaves, without its sink
+abbrev pub stage_of : {D : Type 0} → Situation D → Stage
+stage_of now = record { state = now.state; files = now.files }
+
+module _ {D : Type 0} (outside : Outside D) (setting : Setting) (one : Command) (before now : Situation D) where
   -- the threads that came up and the answer were written, or not all of it
-  follows : (reads : List Read) (acted : Acted) (first last : D) (come : Played) →
-      Tells stands faults first last (told_of one (did_by reads acted new)) acted.answer come →
-      Follows stands faults one (did_by reads acted new) old new first last come
-  follows reads acted first last (Answered answer) told = record {
+  follows : (reads : List Read) (acted : Acted) (come : Played) →
+      Tells outside.stands outside.faults before.sink now.sink (told_of one (did_by reads acted now.state)) acted.answer come →
+      Follows outside one (did_by reads acted now.state) before now come
+  follows reads acted (Answered answer) told = record {
     later = told.1.later;
     cause = told.1.still;
     follows = record { is_answer = told.0; is_after = refl; grew = told.1.outcome };
   }
-  follows reads acted first last WriteFault told = record {
+  follows reads acted WriteFault told = record {
     later = told.later;
     cause = told.outcome.1;
     follows = (
       record { front = told.outcome.0.front; is_front = (told.outcome.0.rest, told.outcome.0.split); grew = told.outcome.0.grew },
-      is_new [] told.outcome.0.front old new,
+      is_new [] told.outcome.0.front before.state now.state,
       told.outcome.1,
     );
   }
-  follows reads acted first last NoMemory told = absurd told
+  follows reads acted NoMemory told = absurd told
 
-  pub acted_does : (runs : List RunOf) (acted : Acted) (names : List (List ℕ)) (first last : D) (come : Played) →
-      Acts tells holds setting one files_before files_now old new acted → names_in one ≡ names →
-      Tells stands faults first last (ups_text acted.ups.items ++ answer_line names acted.answer) acted.answer come →
-      Does stands faults lists tells holds setting one files_before files_now runs runs old new first last come
-  acted_does runs acted names first last come acts named told = record {
-    did = did_by acts.reads acted new;
-    step = acts.step lists;
-    held = acts.held;
+  pub acted_does : (acted : Acted) (names : List (List ℕ)) (come : Played) →
+      Acts outside.held setting one (stage_of before) (stage_of now) acted → names_in one ≡ names → now.runs ≡ before.runs →
+      Tells outside.stands outside.faults before.sink now.sink (ups_text acted.ups.items ++ answer_line names acted.answer) acted.answer come →
+      Does outside setting one before now come
+  acted_does acted names come acts named no_run told = record {
+    did = did_by acts.reads acted now.state;
+    step = acts.step outside.lists;
+    is_held = acts.is_held;
     cause = acts.cause;
     rest =
-        follows acts.reads acted first last come
-        (subst (λ (all : List (List ℕ)). Tells stands faults first last (ups_text acted.ups.items ++ answer_line all acted.answer) acted.answer come) (sym named) told);
-    kept = λ answer is unlisted. sym (append-nil runs);
+        follows acts.reads acted come
+        (subst (λ (all : List (List ℕ)). Tells outside.stands outside.faults before.sink now.sink (ups_text acted.ups.items ++ answer_line all acted.answer) acted.answer come) (sym named) told);
+    kept = λ answer is unlisted. no_run ∙ sym (append-nil before.runs);
   }
 
   -- memory ran out before anything was done
-  pub begun : (runs_before runs_now : List RunOf) (sink : D) → SomeStep lists setting old one holds → files_now ≡ files_before →
-      new ≡ old → Does stands faults lists tells holds setting one files_before files_now runs_before runs_now old new sink sink NoMemory
-  begun runs_before runs_now sink some still same = record {
+  pub begun : (holds : List ℕ → List ℕ) → ((reads : List Read) → AreHeld holds reads → outside.held reads) →
+      SomeStep outside.lists setting before.state one holds → now.files ≡ before.files → now.state ≡ before.state →
+      Does outside setting one before (record now { sink = before.sink }) NoMemory
+  begun holds tell some still same = record {
     did = some.did;
     step = some.step;
-    held = λ told. some.held;
-    cause = subst (λ (unread : Bool). FileCause unread files_before files_now) (sym some.all_read) still;
+    is_held = tell some.did.reads some.held;
+    cause = subst (λ (unread : Bool). FileCause unread before.files now.files) (sym some.all_read) still;
     rest = record {
       later = omega arith;
       cause = refl;
@@ -68,7 +73,7 @@ module _ {D : Type 0} (stands : D → List ℕ → Type 0) (faults : D → ℕ) 
         record {
           front = [];
           is_front = (some.did.shown ++ told_of one some.did, refl);
-          grew = record { each = λ taken before. subst (λ text. stands sink text) (sym (append-nil taken)) before };
+          grew = record { each = λ taken is. subst (λ text. outside.stands before.sink text) (sym (append-nil taken)) is };
         },
         same,
       );
@@ -78,20 +83,20 @@ module _ {D : Type 0} (stands : D → List ℕ → Type 0) (faults : D → ℕ) 
 
   -- ---- with the heading
 
-  pub does_play : {E : Type 0} (k : ℕ) (runs_before runs_now : List RunOf) (first mid last : D) (come : Played) →
-      Writes {E = E} stands faults first mid (heading k one) (Ok tt) →
-      Does stands faults lists tells holds setting one files_before files_now runs_before runs_now old new mid last come →
-      IsPlayed stands faults lists (λ reads. tells → AreHeld holds reads) setting k one files_before files_now runs_before runs_now old new first last come
-  does_play {E = E} k runs_before runs_now first mid last come head does =
-      after_heading stands faults lists (λ reads. tells → AreHeld holds reads) setting k one files_before files_now runs_before runs_now old new
-      does.did (record { step = does.step; is_held = does.held }) does.cause {E = E} first mid last come does.kept head does.rest
+  pub does_play : {E : Type 0} (k : ℕ) (mid : D) (come : Played) →
+      Writes {E = E} outside.stands outside.faults before.sink mid (heading k one) (Ok tt) →
+      Does outside setting one (record before { sink = mid }) now come → IsPlayed outside setting k one before now come
+  does_play {E = E} k mid come head does =
+      after_heading outside setting k one before now does.did (record { step = does.step; is_held = does.is_held }) does.cause
+      {E = E} mid come does.kept head does.rest
 
   -- not even the heading was written
-  pub nothing_played : {E : Type 0} (e : E) (k : ℕ) (runs_before runs_now : List RunOf) (first last : D) →
-      SomeStep lists setting old one holds → files_now ≡ files_before → new ≡ old →
-      Writes {E = E} stands faults first last (heading k one) (Err e) →
-      IsPlayed stands faults lists (λ reads. tells → AreHeld holds reads) setting k one files_before files_now runs_before runs_now old new first last WriteFault
-  nothing_played {E = E} e k runs_before runs_now first last some still same head =
-      no_heading stands faults lists (λ reads. tells → AreHeld holds reads) setting k one files_before files_now runs_before runs_now old new
-      some.did (record { step = some.step; is_held = λ told. some.held })
-      (subst (λ (unread : Bool). FileCause unread files_before files_now) (sym some.all_read) still) {E = E} e first last head same
+  pub nothing_played : {E : Type 0} (e : E) (k : ℕ) (holds : List ℕ → List ℕ) →
+      ((reads : List Read) → AreHeld holds reads → outside.held reads) →
+      SomeStep outside.lists setting before.state one holds → now.files ≡ before.files → now.state ≡ before.state →
+      Writes {E = E} outside.stands outside.faults before.sink now.sink (heading k one) (Err e) →
+      IsPlayed outside setting k one before now WriteFault
+  nothing_played {E = E} e k holds tell some still same head =
+      no_heading outside setting k one before now some.did
+      (record { step = some.step; is_held = tell some.did.reads some.held })
+      (subst (λ (unread : Bool). FileCause unread before.files now.files) (sym some.all_read) still) {E = E} e head same

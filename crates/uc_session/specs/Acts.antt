@@ -1,6 +1,6 @@
 -- What a command did in which no rendezvous ran.
 use Rattle.std.specs.Prelude.{ℕ, Bool, List, [], None}
-use Rattle.file_reads.specs.Reads.{Read, AreHeld}
+use Rattle.file_reads.specs.Reads.{Read}
 use Rattle.script_text.specs.declared.command.Command.{Command}
 use Rattle.script_text.specs.declared.command.Command.TheVariants as command
 use Rattle.session_steps.specs.State.{Setting, State}
@@ -26,10 +26,14 @@ did_by reads acted after = record {
   ran = None;
 }
 
--- the command did this: what was read is what the files hold, where they tell, and a file is unread exactly where the files'
--- count rose
-pub record Acts (tells : Type 0) (holds : List ℕ → List ℕ) (setting : Setting) (one : Command) (files_before files_now : ℕ) (old new : State) (acted : Acted) : Type 0 where
+-- what a part of a command that writes nothing finds or leaves: the session's state, and the files' count of faults
+pub record Stage : Type 0 where
+  pub state : State
+  pub files : ℕ
+
+-- the command did this: a file is unread exactly where the files' count rose
+pub record Acts (held : List Read → Type 0) (setting : Setting) (one : Command) (before now : Stage) (acted : Acted) : Type 0 where
   pub reads : List Read
-  pub held : tells → AreHeld holds reads
-  pub step : (lists : Bool) → SessionStep lists setting old one (did_by reads acted new)
-  pub cause : FileCause (is_read_fault acted.answer) files_before files_now
+  pub is_held : held reads
+  pub step : (lists : Bool) → SessionStep lists setting before.state one (did_by reads acted now.state)
+  pub cause : FileCause (is_read_fault acted.answer) before.files now.files

@@ -1,6 +1,6 @@
 -- A load, as far as its rendezvous.
 use Rattle.std.specs.Prelude.{◌≡◌, ℕ, ◌<◌, Bool, List, length, All, Option, IfSome, Err}
-use Rattle.file_reads.specs.Reads.{Read, AreHeld}
+use Rattle.file_reads.specs.Reads.{Read}
 use Rattle.rendezvous_steps.specs.declared.ends.Beat.{Beat}
 use Rattle.uc_catalog.specs.Contents.{Contents}
 use Rattle.script_text.specs.declared.command.Command.TheVariants as command
@@ -17,6 +17,7 @@ use Rattle.session_parts.specs.Loads.{IsPut}
 use Rattle.uc_session.specs.declared.setting_out.Ready.{Ready}
 use Rattle.uc_session.specs.declared.setting_out.Stop.{Stop}
 use Rattle.uc_session.specs.declared.setting_out.Stop.TheVariants.{Answer, NoMemory}
+use Rattle.uc_session.specs.Acts.{Stage}
 
 -- What is offered of the entries of a catalogue.
 
@@ -49,22 +50,24 @@ StopsFrom setting force contents old stop = ⊥
 -- The load of files.
 
 -- all needed threads are present, all files were read, and what is offered of them was put
-pub record SetsOut (tells : Type 0) (holds : List ℕ → List ℕ) (setting : Setting) (force : Bool) (names : List (List ℕ)) (files_before files_now : ℕ) (old new : State) (ready : Ready) : Type 0 where
+pub record SetsOut (held : List Read → Type 0) (setting : Setting) (force : Bool) (names : List (List ℕ)) (before now : Stage) (ready : Ready) : Type 0 where
   pub reads : List Read
-  pub held : tells → AreHeld holds reads
-  pub still : files_now ≡ files_before
-  pub present : AllPresent setting old
+  pub is_held : held reads
+  pub still : now.files ≡ before.files
+  pub present : AllPresent setting before.state
   pub read : ReadAll names reads ready.catalog.entries
-  pub from : SetsOutFrom setting force ready.catalog old new ready
+  pub from : SetsOutFrom setting force ready.catalog before.state now.state ready
 
--- the answer is that of a load that does not come to its rendezvous
-pub record Refuses (tells : Type 0) (holds : List ℕ → List ℕ) (setting : Setting) (force : Bool) (names : List (List ℕ)) (files_before files_now : ℕ) (old : State) (answer : LoadAnswer) : Type 0 where
+-- the answer is that of a load that does not come to its rendezvous, and the state is as it was
+pub record Refuses (held : List Read → Type 0) (setting : Setting) (force : Bool) (names : List (List ℕ)) (before now : Stage) (answer : LoadAnswer) : Type 0 where
   pub reads : List Read
-  pub held : tells → AreHeld holds reads
-  pub step : (lists : Bool) (beats : List Beat) → SessionStep lists setting old (command.Load force names beats) (only old reads (Load answer))
-  pub cause : FileCause (is_read_fault (Load answer)) files_before files_now
+  pub is_held : held reads
+  pub step :
+      (lists : Bool) (beats : List Beat) →
+      SessionStep lists setting before.state (command.Load force names beats) (only before.state reads (Load answer))
+  pub cause : FileCause (is_read_fault (Load answer)) before.files now.files
+  pub same : now.state ≡ before.state
 
-abbrev pub Stops : Type 0 → (List ℕ → List ℕ) → Setting → Bool → List (List ℕ) → ℕ → ℕ → State → Stop → Type 0
-Stops tells holds setting force names files_before files_now old (Answer answer) =
-    Refuses tells holds setting force names files_before files_now old answer
-Stops tells holds setting force names files_before files_now old NoMemory = files_now ≡ files_before
+abbrev pub Stops : (List Read → Type 0) → Setting → Bool → List (List ℕ) → Stage → Stage → Stop → Type 0
+Stops held setting force names before now (Answer answer) = Refuses held setting force names before now answer
+Stops held setting force names before now NoMemory = (now.files ≡ before.files) × (now.state ≡ before.state)

@@ -16,29 +16,40 @@ use Rattle.ctl_core.specs.declared.runs.RunAnswer.{RunAnswer}
 use Rattle.ctl_core.specs.declared.runs.RunAnswer.TheVariants.{WriteFault, NoMemory}
 use Rattle.ctl_core.specs.Outcomes.{outcome_of}
 
+-- the outside of a rendezvous by its meanings: which bytes stand in a sink, and the count of the sink's faults; and whether
+-- items are listed
+pub record RunOutside (D : Type 0) : Type 1 where
+  pub stands : D → List ℕ → Type 0
+  pub faults : D → ℕ
+  pub lists : Bool
+
+-- what runs leave: those that were kept, and the sink that they were written to
+pub record RunTraces (D : Type 0) : Type 0 where
+  pub runs : List RunOf
+  pub sink : D
+
 -- the rendezvous came to an outcome: what is offered was written, and then the text of the run
-pub record CameTo {D : Type 0} (stands : D → List ℕ → Type 0) (faults : D → ℕ) (lists : Bool) (plan : Plan) (beats : List Beat) (offered : List ℕ) (runs_before runs_now : List RunOf) (before now : D) (outcome : Outcome) : Type 0 where
+pub record CameTo {D : Type 0} (outside : RunOutside D) (plan : Plan) (beats : List Beat) (offered : List ℕ) (before now : RunTraces D) (outcome : Outcome) : Type 0 where
   pub items : List ℕ
   pub late : Bool
-  pub ran : Ran item_line lists plan beats items outcome late
-  pub wrote : Writes {E = Unit {0}} stands faults before now (offered ++ items) (Ok tt)
-  pub kept : lists ≡ false → runs_now ≡ runs_before ++ record { plan = plan; outcome = outcome; late = late } ∷ []
+  pub ran : Ran item_line outside.lists plan beats items outcome late
+  pub wrote : Writes {E = Unit {0}} outside.stands outside.faults before.sink now.sink (offered ++ items) (Ok tt)
+  pub kept : outside.lists ≡ false → now.runs ≡ before.runs ++ record { plan = plan; outcome = outcome; late = late } ∷ []
 
 -- a front was written of what is offered and the text of a run
-pub record CutShort {D : Type 0} (stands : D → List ℕ → Type 0) (faults : D → ℕ) (lists : Bool) (plan : Plan) (beats : List Beat) (offered : List ℕ) (before now : D) : Type 0 where
-  pub run : SomeRun item_line lists plan beats
+pub record CutShort {D : Type 0} (outside : RunOutside D) (plan : Plan) (beats : List Beat) (offered : List ℕ) (before now : D) : Type 0 where
+  pub run : SomeRun item_line outside.lists plan beats
   pub front : List ℕ
   pub is_front : IsFront front (offered ++ run.text)
-  pub later : faults before ≤ faults now
-  pub grew : Grew stands before now front
+  pub later : outside.faults before ≤ outside.faults now
+  pub grew : Grew outside.stands before now front
 
-abbrev pub Meets : {D : Type 0} → (D → List ℕ → Type 0) → (D → ℕ) → Bool → Plan → List Beat → List ℕ → List RunOf → List RunOf → D → D → Result Tables RunAnswer → Type 0
-Meets stands faults lists plan beats offered runs_before runs_now before now (Ok outcome) =
-    CameTo stands faults lists plan beats offered runs_before runs_now before now (outcome_of outcome)
-Meets stands faults lists plan beats offered runs_before runs_now before now (Err WriteFault) =
-    CutShort stands faults lists plan beats offered before now × Rose (faults before) (faults now)
-Meets stands faults lists plan beats offered runs_before runs_now before now (Err NoMemory) =
-    CutShort stands faults lists plan beats offered before now × (faults now ≡ faults before)
+abbrev pub Meets : {D : Type 0} → RunOutside D → Plan → List Beat → List ℕ → RunTraces D → RunTraces D → Result Tables RunAnswer → Type 0
+Meets outside plan beats offered before now (Ok outcome) = CameTo outside plan beats offered before now (outcome_of outcome)
+Meets outside plan beats offered before now (Err WriteFault) =
+    CutShort outside plan beats offered before.sink now.sink × Rose (outside.faults before.sink) (outside.faults now.sink)
+Meets outside plan beats offered before now (Err NoMemory) =
+    CutShort outside plan beats offered before.sink now.sink × (outside.faults now.sink ≡ outside.faults before.sink)
 
 -- a call whose rendezvous came to no outcome
 abbrev pub cut_short : RunAnswer → Played

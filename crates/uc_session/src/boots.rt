@@ -4,6 +4,7 @@ ghost use Rattle.std.specs.Prelude.{◌≡◌, ◌≤◌, true, IsTrue, length, 
 ghost use Rattle.machine_steps.specs.Hardware.{is_off};
 ghost use Rattle.script_text.specs.declared.command.Command.TheVariants.{Boot};
 ghost use Rattle.session_laws.specs.Standing.{Standing};
+ghost use Rattle.session_steps.specs.Calls.{HeldWhere};
 ghost use Rattle.session_parts.specs.Parts.{setting_of, state_of};
 ghost use Rattle.uc_session.specs.Acts.{Acts};
 ghost use Rattle.uc_session.specs.Boots.{BootsTo};
@@ -29,7 +30,7 @@ pub fn boot<F: Files>(
 ) -> Result<Acted, NoMemory>
     requires few { length names.now ≤ 16 }
     requires standing { Standing (setting_of parts.old) (state_of parts.old) }
-    ensures done { IfOk result (λ acted. Acts (F.tells files.old) (F.holds files.old) (setting_of parts.old) (Boot names.now) (F.faults files.old) (F.faults files.new) (state_of parts.old) (state_of parts.new) acted) }
+    ensures done { IfOk result (Acts (HeldWhere (F.tells files.old) (F.holds files.old)) (setting_of parts.old) (Boot names.now) (record { state = state_of parts.old; files = F.faults files.old }) (record { state = state_of parts.new; files = F.faults files.new })) }
     ensures memory { IfErr result (λ _. (state_of parts.new ≡ state_of parts.old) × (F.faults files.new ≡ F.faults files.old)) }
     ensures setting { setting_of parts.new ≡ setting_of parts.old }
     ensures same { F.holds files.new ≡ F.holds files.old }
@@ -59,7 +60,7 @@ fn boot_off<F: Files>(
     requires few { length names.now ≤ 16 }
     requires standing { Standing (setting_of parts.old) (state_of parts.old) }
     requires off { is_off (state_of parts.old).hardware.power ≡ true }
-    ensures done { IfOk result (λ acted. Acts (F.tells files.old) (F.holds files.old) (setting_of parts.old) (Boot names.now) (F.faults files.old) (F.faults files.new) (state_of parts.old) (state_of parts.new) acted) }
+    ensures done { IfOk result (Acts (HeldWhere (F.tells files.old) (F.holds files.old)) (setting_of parts.old) (Boot names.now) (record { state = state_of parts.old; files = F.faults files.old }) (record { state = state_of parts.new; files = F.faults files.new })) }
     ensures memory { IfErr result (λ _. (state_of parts.new ≡ state_of parts.old) × (F.faults files.new ≡ F.faults files.old)) }
     ensures setting { setting_of parts.new ≡ setting_of parts.old }
     ensures same { F.holds files.new ≡ F.holds files.old }

@@ -11,6 +11,7 @@ ghost use Rattle.session_laws.specs.Standing.{Standing};
 ghost use Rattle.session_steps.specs.State.{Setting, State, machine_of};
 ghost use Rattle.session_steps.specs.Offers.{load_offers_text, plan_of as load_plan};
 ghost use Rattle.session_steps.specs.Did.{results_text};
+ghost use Rattle.session_steps.specs.Calls.{HeldWhere};
 ghost use Rattle.machine_steps.specs.Puts.{Puts};
 ghost use Rattle.ctl_words.specs.Plans.{plan_of, IsSound};
 ghost use Rattle.ctl_core.specs.Outcomes.{outcome_of};
@@ -52,7 +53,9 @@ fn offer_and_run<R: Rendezvous, S: Sink>(
     requires sound { IsSound plan.now }
     requires few { plan.now.threads ≤ R.limit how.old }
     requires in_range { All (BeatInRange plan.now.threads) beats.now }
-    ensures meets { (setting : Setting) (state : State) (puts : Puts) → setting.machine ≡ topology.now → plan_of plan.now ≡ load_plan setting state puts ready.now.offers.items → Meets S.stands S.faults R.lists (plan_of plan.now) beats.now (load_offers_text setting state ready.now.catalog.entries ready.now.offers.items) (R.runs how.old) (R.runs how.new) out.old out.new result }
+    ensures meets { (setting : Setting) (state : State) (puts : Puts) → setting.machine ≡ topology.now → plan_of plan.now ≡ load_plan setting state puts ready.now.offers.items → Meets
+        (record { stands = S.stands; faults = S.faults; lists = R.lists }) (plan_of plan.now) beats.now (load_offers_text setting state ready.now.catalog.entries ready.now.offers.items)
+        (record { runs = R.runs how.old; sink = out.old }) (record { runs = R.runs how.new; sink = out.new }) result }
     ensures most_stays { R.limit how.new ≡ R.limit how.old }
 {
     tables_end();
@@ -119,7 +122,12 @@ pub fn play_load<R: Rendezvous, F: Files, S: Sink>(
     requires beats { All (BeatInRange (machine_of (setting_of parts.old)).threads) beats.now }
     requires most { (machine_of (setting_of parts.old)).threads ≤ R.limit how.old }
     requires standing { Standing (setting_of parts.old) (state_of parts.old) }
-    ensures does { Does S.stands S.faults R.lists (F.tells files.old) (F.holds files.old) (setting_of parts.old) (Load force names.now beats.now) (F.faults files.old) (F.faults files.new) (R.runs how.old) (R.runs how.new) (state_of parts.old) (state_of parts.new) out.old out.new result }
+    ensures does { Does
+        (record { stands = S.stands; faults = S.faults; lists = R.lists; held = HeldWhere (F.tells files.old) (F.holds files.old) })
+        (setting_of parts.old) (Load force names.now beats.now)
+        (record { state = state_of parts.old; files = F.faults files.old; runs = R.runs how.old; sink = out.old })
+        (record { state = state_of parts.new; files = F.faults files.new; runs = R.runs how.new; sink = out.new })
+        result }
     ensures setting { setting_of parts.new ≡ setting_of parts.old }
     ensures same { F.holds files.new ≡ F.holds files.old }
     ensures still { F.tells files.old → F.tells files.new }

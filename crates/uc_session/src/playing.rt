@@ -1,13 +1,13 @@
 //! One command, with its text.
 
 ghost use Rattle.std.specs.Prelude.{◌≡◌, ◌≤◌, ◌++◌, length};
-ghost use Rattle.file_reads.specs.Reads.{AreHeld};
 ghost use Rattle.script_text.specs.declared.command.Command.TheVariants.{Boot};
 ghost use Rattle.session_text.specs.Lines.{answer_line};
 ghost use Rattle.session_laws.specs.Standing.{Standing, InRange};
 ghost use Rattle.session_steps.specs.State.{machine_of};
 ghost use Rattle.session_steps.specs.Did.{ups_text};
 ghost use Rattle.session_steps.specs.Session.{names_in};
+ghost use Rattle.session_steps.specs.Calls.{HeldWhere};
 ghost use Rattle.session_steps.specs.Played.{IsPlayed, SinkCause};
 ghost use Rattle.session_parts.specs.Parts.{setting_of, state_of};
 ghost use Rattle.uc_session.specs.Playing.{Tells, Does, BeatsInRange};
@@ -57,7 +57,12 @@ fn play_boot<R: Rendezvous, F: Files, S: Sink>(
 ) -> Played
     requires few { length names.now ≤ 16 }
     requires standing { Standing (setting_of parts.old) (state_of parts.old) }
-    ensures does { Does S.stands S.faults R.lists (F.tells files.old) (F.holds files.old) (setting_of parts.old) (Boot names.now) (F.faults files.old) (F.faults files.new) (R.runs how.now) (R.runs how.now) (state_of parts.old) (state_of parts.new) out.old out.new result }
+    ensures does { Does
+        (record { stands = S.stands; faults = S.faults; lists = R.lists; held = HeldWhere (F.tells files.old) (F.holds files.old) })
+        (setting_of parts.old) (Boot names.now)
+        (record { state = state_of parts.old; files = F.faults files.old; runs = R.runs how.now; sink = out.old })
+        (record { state = state_of parts.new; files = F.faults files.new; runs = R.runs how.now; sink = out.new })
+        result }
     ensures setting { setting_of parts.new ≡ setting_of parts.old }
     ensures same { F.holds files.new ≡ F.holds files.old }
     ensures still { F.tells files.old → F.tells files.new }
@@ -86,7 +91,12 @@ pub fn play<R: Rendezvous, F: Files, S: Sink>(
     requires beats { BeatsInRange (machine_of (setting_of parts.old)).threads command.now }
     requires most { (machine_of (setting_of parts.old)).threads ≤ R.limit how.old }
     requires standing { Standing (setting_of parts.old) (state_of parts.old) }
-    ensures played { IsPlayed S.stands S.faults R.lists (λ reads. F.tells files.old → AreHeld (F.holds files.old) reads) (setting_of parts.old) number command.now (F.faults files.old) (F.faults files.new) (R.runs how.old) (R.runs how.new) (state_of parts.old) (state_of parts.new) out.old out.new result }
+    ensures played { IsPlayed
+        (record { stands = S.stands; faults = S.faults; lists = R.lists; held = HeldWhere (F.tells files.old) (F.holds files.old) })
+        (setting_of parts.old) number command.now
+        (record { state = state_of parts.old; files = F.faults files.old; runs = R.runs how.old; sink = out.old })
+        (record { state = state_of parts.new; files = F.faults files.new; runs = R.runs how.new; sink = out.new })
+        result }
     ensures setting { setting_of parts.new ≡ setting_of parts.old }
     ensures same { F.holds files.new ≡ F.holds files.old }
     ensures still { F.tells files.old → F.tells files.new }

@@ -1,9 +1,9 @@
 //! A whole session: the commands of a script, one after another.
 
 ghost use Rattle.std.specs.Prelude.{◌≡◌, ◌≤◌, ◌&&◌, ℕ, true, false, length, MatchOption};
-ghost use Rattle.file_reads.specs.Reads.{AreHeld};
 ghost use Rattle.script_text.specs.Within.{IsWithin};
 ghost use Rattle.session_steps.specs.Session.{answer_by, ended_by, ends_session, is_done};
+ghost use Rattle.session_steps.specs.Calls.{HeldWhere};
 ghost use Rattle.session_steps.specs.Whole.{IsPlayedThrough, SinkCauseAt};
 
 use crate::sessions::Session;
@@ -53,7 +53,12 @@ pub fn run_session<R: Rendezvous, F: Files, S: Sink>(
 ) -> SessionAnswer
     requires most { length topology.now.stated.threads ≤ R.limit how.old }
     requires within { IsWithin (record { threads = length topology.now.stated.threads; cores = length topology.now.stated.cores }) script.now }
-    ensures played { IsPlayedThrough S.stands S.faults R.lists (λ reads. F.tells files.old → AreHeld (F.holds files.old) reads) (record { machine = topology.now; blocks = script.now.pool; patience = script.now.patience }) script.now.commands (F.faults files.old) (F.faults files.new) (R.runs how.old) (R.runs how.new) out.old out.new result }
+    ensures played { IsPlayedThrough
+        (record { stands = S.stands; faults = S.faults; lists = R.lists; held = HeldWhere (F.tells files.old) (F.holds files.old) })
+        (record { machine = topology.now; blocks = script.now.pool; patience = script.now.patience }) script.now.commands
+        (record { files = F.faults files.old; runs = R.runs how.old; sink = out.old })
+        (record { files = F.faults files.new; runs = R.runs how.new; sink = out.new })
+        result }
     ensures same { F.holds files.new ≡ F.holds files.old }
     ensures still { F.tells files.old → F.tells files.new }
     ensures later { F.faults files.old ≤ F.faults files.new }

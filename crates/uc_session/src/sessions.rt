@@ -5,9 +5,9 @@ ghost use Rattle.uc_topology.specs.Stated.{group_count};
 ghost use Rattle.patch_pool.specs.Pool.{patches_of, blocks_in};
 ghost use Rattle.early_load.specs.Caches.{first_block, HoldsJustCached};
 ghost use Rattle.session_steps.specs.State.{opening_state, machine_of};
+ghost use Rattle.session_steps.specs.Calls.{HeldWhere};
 ghost use Rattle.session_steps.specs.Played.{IsPlayed, SinkCause};
 ghost use Rattle.uc_session.specs.Playing.{BeatsInRange};
-ghost use Rattle.file_reads.specs.Reads.{AreHeld};
 ghost use Rattle.session_laws.specs.Standing.{Standing, InRange};
 ghost use Rattle.session_parts.specs.Parts.{setting_of as parts_setting, state_of as parts_state};
 
@@ -110,7 +110,12 @@ impl Session {
         requires range { InRange (setting_of self.old) command.now }
         requires beats { BeatsInRange (machine_of (setting_of self.old)).threads command.now }
         requires most { (machine_of (setting_of self.old)).threads ≤ R.limit how.old }
-        ensures played { IsPlayed S.stands S.faults R.lists (λ reads. F.tells files.old → AreHeld (F.holds files.old) reads) (setting_of self.old) number command.now (F.faults files.old) (F.faults files.new) (R.runs how.old) (R.runs how.new) (state_of self.old) (state_of self.new) out.old out.new result }
+        ensures played { IsPlayed
+            (record { stands = S.stands; faults = S.faults; lists = R.lists; held = HeldWhere (F.tells files.old) (F.holds files.old) })
+            (setting_of self.old) number command.now
+            (record { state = state_of self.old; files = F.faults files.old; runs = R.runs how.old; sink = out.old })
+            (record { state = state_of self.new; files = F.faults files.new; runs = R.runs how.new; sink = out.new })
+            result }
         ensures setting { setting_of self.new ≡ setting_of self.old }
         ensures same { F.holds files.new ≡ F.holds files.old }
         ensures still { F.tells files.old → F.tells files.new }

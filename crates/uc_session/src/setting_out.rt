@@ -3,6 +3,7 @@
 ghost use Rattle.std.specs.Prelude.{◌≡◌, ◌≤◌, IsTrue, length, is_some, MatchResult};
 ghost use Rattle.std.specs.List.{list_any};
 ghost use Rattle.session_laws.specs.Standing.{Standing};
+ghost use Rattle.session_steps.specs.Calls.{HeldWhere};
 ghost use Rattle.session_parts.specs.Parts.{setting_of, state_of};
 ghost use Rattle.uc_session.specs.Loads.{SetsOut, Stops, SetsOutFrom, StopsFrom};
 
@@ -42,7 +43,9 @@ pub fn set_out<F: Files>(
 ) -> Result<Ready, Stop>
     requires few { length names.now ≤ 16 }
     requires standing { Standing (setting_of parts.old) (state_of parts.old) }
-    ensures answer { MatchResult result (SetsOut (F.tells files.old) (F.holds files.old) (setting_of parts.old) force names.now (F.faults files.old) (F.faults files.new) (state_of parts.old) (state_of parts.new)) (λ stop. Stops (F.tells files.old) (F.holds files.old) (setting_of parts.old) force names.now (F.faults files.old) (F.faults files.new) (state_of parts.old) stop × (state_of parts.new ≡ state_of parts.old)) }
+    ensures answer { MatchResult result
+        (SetsOut (HeldWhere (F.tells files.old) (F.holds files.old)) (setting_of parts.old) force names.now (record { state = state_of parts.old; files = F.faults files.old }) (record { state = state_of parts.new; files = F.faults files.new }))
+        (Stops (HeldWhere (F.tells files.old) (F.holds files.old)) (setting_of parts.old) force names.now (record { state = state_of parts.old; files = F.faults files.old }) (record { state = state_of parts.new; files = F.faults files.new })) }
     ensures setting { setting_of parts.new ≡ setting_of parts.old }
     ensures same { F.holds files.new ≡ F.holds files.old }
     ensures still { F.tells files.old → F.tells files.new }

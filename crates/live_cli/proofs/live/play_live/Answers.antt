@@ -111,12 +111,8 @@ returns-clause-written g c =
     _
     (λ tell. second.still (first.still tell))
     (second.same ∙ first.same)
-    _
-    _
-    _
-    _
-    _
-    _
+    (record { files = _; runs = _; sink = _ })
+    (record { files = _; runs = _; sink = _ })
     _
     (second.answer.0 ∙ first.answer.0)
     c.run_session-answer.result

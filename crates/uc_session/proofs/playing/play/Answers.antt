@@ -4,6 +4,7 @@ use Rattle.uc_io.specs.declared.sinks.SinkFailed.{SinkFailed}
 use Rattle.file_reads.specs.Reads.{Read}
 use Rattle.script_text.specs.declared.command.Command.{Command}
 use Rattle.script_text.specs.declared.command.Command.TheVariants.{Boot, Load}
+use Rattle.session_steps.specs.Calls.{HeldWhere}
 use Rattle.session_steps.specs.Played.{FileCause, SinkCause}
 use Rattle.session_parts.specs.Parts.{setting_of, state_of}
 use Rattle.uc_session.specs.Playing.{Does}
@@ -12,32 +13,48 @@ use Rattle.uc_session.proofs.playing.play.Goals as goal
 
 pub returns-in-Err-clause-played : goal.returns-in-Err-clause-played
 returns-in-Err-clause-played g c =
-    nothing_played g.S.Sink.stands g.S.Sink.faults g.R.Rendezvous.lists (g.F.Pieces.tells c.args.files.now) (g.F.Files.holds c.args.files.now)
-    (setting_of c.args.parts.now) c.args.command.now (g.F.Pieces.faults c.args.files.now) (g.F.Pieces.faults c.args.files.now)
-    (state_of c.args.parts.now) (state_of c.args.parts.now) {E = SinkFailed} c.in-Err.field-0 c.args.number (g.R.Rendezvous.runs c.args.how.now)
-    (g.R.Rendezvous.runs c.args.how.now) c.args.out.now c.put_heading.new.out
+    nothing_played
+    (record { stands = g.S.Sink.stands; faults = g.S.Sink.faults; lists = g.R.Rendezvous.lists; held = HeldWhere (g.F.Pieces.tells c.args.files.now) (g.F.Files.holds c.args.files.now) })
+    (setting_of c.args.parts.now) c.args.command.now
+    (record { state = state_of c.args.parts.now; files = g.F.Pieces.faults c.args.files.now; runs = g.R.Rendezvous.runs c.args.how.now; sink = c.args.out.now })
+    (record { state = state_of c.args.parts.now; files = g.F.Pieces.faults c.args.files.now; runs = g.R.Rendezvous.runs c.args.how.now; sink = c.put_heading.new.out })
+    {E = SinkFailed} c.in-Err.field-0 c.args.number (g.F.Files.holds c.args.files.now) (λ reads is told. is)
     (c.each_command_does_something.ensures.step g.R.Rendezvous.lists (setting_of c.args.parts.now) (state_of c.args.parts.now) c.args.command.now
     (g.F.Files.holds c.args.files.now) g.met.R.Rendezvous.always_runs c.topology-topology.ensures.partition c.requires.standing)
     refl refl c.in-Err.ensures
 
 pub returns-in-Boot-clause-played : goal.returns-in-Boot-clause-played
 returns-in-Boot-clause-played g c =
-    does_play g.S.Sink.stands g.S.Sink.faults g.R.Rendezvous.lists (g.F.Pieces.tells c.args.files.now) (g.F.Files.holds c.args.files.now)
-    (setting_of c.args.parts.now) c.args.command.now (g.F.Pieces.faults c.args.files.now) (g.F.Pieces.faults c.play_boot.new.files)
-    (state_of c.args.parts.now) (state_of c.play_boot.new.parts) {E = SinkFailed} c.args.number (g.R.Rendezvous.runs c.args.how.now)
-    (g.R.Rendezvous.runs c.args.how.now) c.args.out.now c.put_heading.new.out c.play_boot.new.out c.play_boot.result c.in-Ok.ensures
+    does_play
+    (record { stands = g.S.Sink.stands; faults = g.S.Sink.faults; lists = g.R.Rendezvous.lists; held = HeldWhere (g.F.Pieces.tells c.args.files.now) (g.F.Files.holds c.args.files.now) })
+    (setting_of c.args.parts.now) c.args.command.now
+    (record { state = state_of c.args.parts.now; files = g.F.Pieces.faults c.args.files.now; runs = g.R.Rendezvous.runs c.args.how.now; sink = c.args.out.now })
+    (record { state = state_of c.play_boot.new.parts; files = g.F.Pieces.faults c.play_boot.new.files; runs = g.R.Rendezvous.runs c.args.how.now; sink = c.play_boot.new.out })
+    {E = SinkFailed} c.args.number c.put_heading.new.out c.play_boot.result c.in-Ok.ensures
     (subst
-    (λ (one : Command). Does g.S.Sink.stands g.S.Sink.faults g.R.Rendezvous.lists (g.F.Pieces.tells c.args.files.now) (g.F.Files.holds c.args.files.now) (setting_of c.args.parts.now) one (g.F.Pieces.faults c.args.files.now) (g.F.Pieces.faults c.play_boot.new.files) (g.R.Rendezvous.runs c.args.how.now) (g.R.Rendezvous.runs c.args.how.now) (state_of c.args.parts.now) (state_of c.play_boot.new.parts) c.put_heading.new.out c.play_boot.new.out c.play_boot.result)
+    (λ (one : Command). Does
+    (record { stands = g.S.Sink.stands; faults = g.S.Sink.faults; lists = g.R.Rendezvous.lists; held = HeldWhere (g.F.Pieces.tells c.args.files.now) (g.F.Files.holds c.args.files.now) })
+    (setting_of c.args.parts.now) one
+    (record { state = state_of c.args.parts.now; files = g.F.Pieces.faults c.args.files.now; runs = g.R.Rendezvous.runs c.args.how.now; sink = c.put_heading.new.out })
+    (record { state = state_of c.play_boot.new.parts; files = g.F.Pieces.faults c.play_boot.new.files; runs = g.R.Rendezvous.runs c.args.how.now; sink = c.play_boot.new.out })
+    c.play_boot.result)
     (ap Boot c.as_slice.ensures ∙ sym c.in-Boot.is) c.play_boot.ensures.does)
 
 pub returns-in-Load-clause-played : goal.returns-in-Load-clause-played
 returns-in-Load-clause-played g c =
-    does_play g.S.Sink.stands g.S.Sink.faults g.R.Rendezvous.lists (g.F.Pieces.tells c.args.files.now) (g.F.Files.holds c.args.files.now)
-    (setting_of c.args.parts.now) c.args.command.now (g.F.Pieces.faults c.args.files.now) (g.F.Pieces.faults c.play_load.new.files)
-    (state_of c.args.parts.now) (state_of c.play_load.new.parts) {E = SinkFailed} c.args.number (g.R.Rendezvous.runs c.args.how.now)
-    (g.R.Rendezvous.runs c.play_load.new.how) c.args.out.now c.put_heading.new.out c.play_load.new.out c.play_load.result c.in-Ok.ensures
+    does_play
+    (record { stands = g.S.Sink.stands; faults = g.S.Sink.faults; lists = g.R.Rendezvous.lists; held = HeldWhere (g.F.Pieces.tells c.args.files.now) (g.F.Files.holds c.args.files.now) })
+    (setting_of c.args.parts.now) c.args.command.now
+    (record { state = state_of c.args.parts.now; files = g.F.Pieces.faults c.args.files.now; runs = g.R.Rendezvous.runs c.args.how.now; sink = c.args.out.now })
+    (record { state = state_of c.play_load.new.parts; files = g.F.Pieces.faults c.play_load.new.files; runs = g.R.Rendezvous.runs c.play_load.new.how; sink = c.play_load.new.out })
+    {E = SinkFailed} c.args.number c.put_heading.new.out c.play_load.result c.in-Ok.ensures
     (subst
-    (λ (one : Command). Does g.S.Sink.stands g.S.Sink.faults g.R.Rendezvous.lists (g.F.Pieces.tells c.args.files.now) (g.F.Files.holds c.args.files.now) (setting_of c.args.parts.now) one (g.F.Pieces.faults c.args.files.now) (g.F.Pieces.faults c.play_load.new.files) (g.R.Rendezvous.runs c.args.how.now) (g.R.Rendezvous.runs c.play_load.new.how) (state_of c.args.parts.now) (state_of c.play_load.new.parts) c.put_heading.new.out c.play_load.new.out c.play_load.result)
+    (λ (one : Command). Does
+    (record { stands = g.S.Sink.stands; faults = g.S.Sink.faults; lists = g.R.Rendezvous.lists; held = HeldWhere (g.F.Pieces.tells c.args.files.now) (g.F.Files.holds c.args.files.now) })
+    (setting_of c.args.parts.now) one
+    (record { state = state_of c.args.parts.now; files = g.F.Pieces.faults c.args.files.now; runs = g.R.Rendezvous.runs c.args.how.now; sink = c.put_heading.new.out })
+    (record { state = state_of c.play_load.new.parts; files = g.F.Pieces.faults c.play_load.new.files; runs = g.R.Rendezvous.runs c.play_load.new.how; sink = c.play_load.new.out })
+    c.play_load.result)
     (ap (λ (names : List (List ℕ)). Load c.in-Load.force names c.as_slice-in-Load-2.result.now) c.as_slice-in-Load.ensures
     ∙ ap (Load c.in-Load.force c.in-Load.names) c.as_slice-in-Load-2.ensures
     ∙ sym c.in-Load.is)
@@ -60,23 +77,27 @@ returns-in-Load-clause-sink_cause g c =
 pub returns-in_default : goal.returns-in_default
 returns-in_default g c =
     let does =
-    acted_does g.S.Sink.stands g.S.Sink.faults g.R.Rendezvous.lists (g.F.Pieces.tells c.args.files.now) (g.F.Files.holds c.args.files.now)
-    (setting_of c.args.parts.now) c.args.command.now (g.F.Pieces.faults c.args.files.now) (g.F.Pieces.faults c.args.files.now)
-    (state_of c.args.parts.now) (state_of c.act.new.parts) (g.R.Rendezvous.runs c.args.how.now) c.act.result c.names_in.result.now
-    c.put_heading.new.out c.tell.new.out c.tell.result
+    acted_does
+    (record { stands = g.S.Sink.stands; faults = g.S.Sink.faults; lists = g.R.Rendezvous.lists; held = HeldWhere (g.F.Pieces.tells c.args.files.now) (g.F.Files.holds c.args.files.now) })
+    (setting_of c.args.parts.now) c.args.command.now
+    (record { state = state_of c.args.parts.now; files = g.F.Pieces.faults c.args.files.now; runs = g.R.Rendezvous.runs c.args.how.now; sink = c.put_heading.new.out })
+    (record { state = state_of c.act.new.parts; files = g.F.Pieces.faults c.args.files.now; runs = g.R.Rendezvous.runs c.args.how.now; sink = c.tell.new.out })
+    c.act.result c.names_in.result.now c.tell.result
     (record {
       reads = [];
-      held = λ told. All-nil (λ (read : Read). read.bytes ≡ g.F.Files.holds c.args.files.now read.name);
+      is_held = λ told. All-nil (λ (read : Read). read.bytes ≡ g.F.Files.holds c.args.files.now read.name);
       step = c.act.ensures.step;
       cause = subst (λ (unread : Bool). FileCause unread (g.F.Pieces.faults c.args.files.now) (g.F.Pieces.faults c.args.files.now)) (sym c.act.ensures.read) refl;
     })
-    (sym c.names_in.ensures) c.tell.ensures in
+    (sym c.names_in.ensures) refl c.tell.ensures in
     record {
       played =
-          does_play g.S.Sink.stands g.S.Sink.faults g.R.Rendezvous.lists (g.F.Pieces.tells c.args.files.now) (g.F.Files.holds c.args.files.now)
-          (setting_of c.args.parts.now) c.args.command.now (g.F.Pieces.faults c.args.files.now) (g.F.Pieces.faults c.args.files.now)
-          (state_of c.args.parts.now) (state_of c.act.new.parts) {E = SinkFailed} c.args.number (g.R.Rendezvous.runs c.args.how.now)
-          (g.R.Rendezvous.runs c.args.how.now) c.args.out.now c.put_heading.new.out c.tell.new.out c.tell.result c.in-Ok.ensures does;
+          does_play
+          (record { stands = g.S.Sink.stands; faults = g.S.Sink.faults; lists = g.R.Rendezvous.lists; held = HeldWhere (g.F.Pieces.tells c.args.files.now) (g.F.Files.holds c.args.files.now) })
+          (setting_of c.args.parts.now) c.args.command.now
+          (record { state = state_of c.args.parts.now; files = g.F.Pieces.faults c.args.files.now; runs = g.R.Rendezvous.runs c.args.how.now; sink = c.args.out.now })
+          (record { state = state_of c.act.new.parts; files = g.F.Pieces.faults c.args.files.now; runs = g.R.Rendezvous.runs c.args.how.now; sink = c.tell.new.out })
+          {E = SinkFailed} c.args.number c.put_heading.new.out c.tell.result c.in-Ok.ensures does;
       setting = c.act.ensures.setting;
       same = refl;
       still = λ told. told;

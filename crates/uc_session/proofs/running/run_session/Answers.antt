@@ -3,6 +3,7 @@ use Rattle.std.proofs.lemmas.List.Sums.{AllPass-from_list_all}
 use Rattle.uc_io.specs.Faults.{Rose}
 use Rattle.script_text.specs.Within.{fits_command}
 use Rattle.session_steps.specs.State.{Setting, State, opening_state}
+use Rattle.session_steps.specs.Calls.{HeldWhere}
 use Rattle.session_text.specs.declared.answers.SessionAnswer.{SessionAnswer}
 use Rattle.session_steps.specs.Session.{short_unless}
 use Rattle.session_steps.specs.Whole.{SinkCauseAt}
@@ -19,9 +20,10 @@ pub returns-in_default-clause-played : goal.returns-in_default-clause-played
 returns-in_default-clause-played g c =
     let setting : Setting =
     record { machine = c.args.topology.now; blocks = c.args.script.now.pool; patience = c.args.script.now.patience } in
-    nothing_played g.S.Sink.stands g.R.Rendezvous.lists (g.F.Pieces.tells c.args.files.now)
-    (g.F.Files.holds c.args.files.now) setting (g.F.Pieces.faults c.args.files.now)
-    (g.R.Rendezvous.runs c.args.how.now) c.args.out.now
+    nothing_played
+    (record { stands = g.S.Sink.stands; faults = g.S.Sink.faults; lists = g.R.Rendezvous.lists; held = HeldWhere (g.F.Pieces.tells c.args.files.now) (g.F.Files.holds c.args.files.now) })
+    (g.F.Pieces.tells c.args.files.now) (g.F.Files.holds c.args.files.now) setting
+    (record { files = g.F.Pieces.faults c.args.files.now; runs = g.R.Rendezvous.runs c.args.how.now; sink = c.args.out.now })
     c.each_command_does_something.ensures.session c.each_state_stands.ensures.opening g.met.R.Rendezvous.always_runs
     c.threads-threads.ensures.partition c.args.script.now.commands
     (all_in_range setting c.args.script.now.commands c.requires.within.each)
@@ -38,13 +40,15 @@ loop-place-init g c =
     record {
       so_far =
           subst (λ (s : State).
-          PlayedSoFar g.S.Sink.stands g.R.Rendezvous.lists (g.F.Pieces.tells c.args.files.now)
-          (g.F.Files.holds c.args.files.now) setting [] true s (g.F.Pieces.faults c.args.files.now)
-          (g.F.Pieces.faults c.args.files.now) (g.R.Rendezvous.runs c.args.how.now) (g.R.Rendezvous.runs c.args.how.now)
-          c.args.out.now c.args.out.now) (sym opens)
-          (before_the_first g.S.Sink.stands g.R.Rendezvous.lists (g.F.Pieces.tells c.args.files.now)
-          (g.F.Files.holds c.args.files.now) setting (g.F.Pieces.faults c.args.files.now)
-          (g.R.Rendezvous.runs c.args.how.now) c.args.out.now);
+          PlayedSoFar
+          (record { stands = g.S.Sink.stands; faults = g.S.Sink.faults; lists = g.R.Rendezvous.lists; held = HeldWhere (g.F.Pieces.tells c.args.files.now) (g.F.Files.holds c.args.files.now) })
+          setting [] true
+          (record { files = g.F.Pieces.faults c.args.files.now; runs = g.R.Rendezvous.runs c.args.how.now; sink = c.args.out.now })
+          (record { state = s; files = g.F.Pieces.faults c.args.files.now; runs = g.R.Rendezvous.runs c.args.how.now; sink = c.args.out.now })) (sym opens)
+          (before_the_first
+          (record { stands = g.S.Sink.stands; faults = g.S.Sink.faults; lists = g.R.Rendezvous.lists; held = HeldWhere (g.F.Pieces.tells c.args.files.now) (g.F.Files.holds c.args.files.now) })
+          (g.F.Pieces.tells c.args.files.now) (g.F.Files.holds c.args.files.now) setting
+          (record { files = g.F.Pieces.faults c.args.files.now; runs = g.R.Rendezvous.runs c.args.how.now; sink = c.args.out.now }));
       setting = set;
       same = refl;
       still = λ tell. tell;
@@ -78,11 +82,12 @@ returns-in-Some-clause-played g c =
     let setting : Setting =
     record { machine = c.args.topology.now; blocks = c.args.script.now.pool; patience = c.args.script.now.patience } in
     last_at c.args.script.now.commands _ c.commands-command-items.ensures c.loop-place.place c.command-item.result
-    c.loop-place-test.true c.command-item.is g.S.Sink.stands
-    g.S.Sink.faults g.R.Rendezvous.lists (g.F.Pieces.tells c.args.files.now) (g.F.Files.holds c.args.files.now)
+    c.loop-place-test.true c.command-item.is
+    (record { stands = g.S.Sink.stands; faults = g.S.Sink.faults; lists = g.R.Rendezvous.lists; held = HeldWhere (g.F.Pieces.tells c.args.files.now) (g.F.Files.holds c.args.files.now) })
+    (g.F.Pieces.tells c.args.files.now) (g.F.Files.holds c.args.files.now)
     setting (setting_of c.loop-place.session)
-    c.loop-place.invariant.setting _ _ _ _ _ _ _ _ c.loop-place.invariant.so_far (g.F.Pieces.tells c.loop-place.files)
-    (g.F.Files.holds c.loop-place.files) c.loop-place.invariant.still c.loop-place.invariant.same _ _ _ _ _
+    c.loop-place.invariant.setting _ _ _ c.loop-place.invariant.so_far (g.F.Pieces.tells c.loop-place.files)
+    (g.F.Files.holds c.loop-place.files) c.loop-place.invariant.still c.loop-place.invariant.same _ _
     c.in-Answered.ensures.played c.in-Some.end c.in-Some.ensures.0 c.in-Some.ensures.1
 
 pub returns-in-Some-clause-sink_cause : goal.returns-in-Some-clause-sink_cause
@@ -104,14 +109,15 @@ returns-in-WriteFault-clause-played g c =
     record { machine = c.args.topology.now; blocks = c.args.script.now.pool; patience = c.args.script.now.patience } in
     let cut = c.in-WriteFault.ensures.played in (
       cut_at c.args.script.now.commands _ c.commands-command-items.ensures c.loop-place.place c.command-item.result
-          c.loop-place-test.true c.command-item.is g.S.Sink.stands
-          g.S.Sink.faults g.R.Rendezvous.lists (g.F.Pieces.tells c.args.files.now) (g.F.Files.holds c.args.files.now)
+          c.loop-place-test.true c.command-item.is
+          (record { stands = g.S.Sink.stands; faults = g.S.Sink.faults; lists = g.R.Rendezvous.lists; held = HeldWhere (g.F.Pieces.tells c.args.files.now) (g.F.Files.holds c.args.files.now) })
+          (g.F.Pieces.tells c.args.files.now) (g.F.Files.holds c.args.files.now)
           setting (setting_of c.loop-place.session)
-          c.loop-place.invariant.setting _ _ _ _ _ _ _ _ c.loop-place.invariant.so_far
+          c.loop-place.invariant.setting _ _ _ c.loop-place.invariant.so_far
           (g.F.Pieces.tells c.loop-place.files) (g.F.Files.holds c.loop-place.files) c.loop-place.invariant.still
           c.loop-place.invariant.same c.begun_commands_go_on.ensures g.met.R.Rendezvous.always_runs
           c.threads-threads.ensures.partition (all_in_range setting c.args.script.now.commands c.requires.within.each)
-          cut.did cut.front _ _ cut.starts,
+          _ cut.starts,
       rose_late (g.S.Sink.faults c.args.out.now) (g.S.Sink.faults c.loop-place.out) (g.S.Sink.faults c.run.new.out)
           (omega (arith, c.loop-place.invariant.sink_still)) c.in-WriteFault.ensures.sink_later cut.rose,
     )
@@ -122,14 +128,15 @@ returns-in-NoMemory-clause-played g c =
     record { machine = c.args.topology.now; blocks = c.args.script.now.pool; patience = c.args.script.now.patience } in
     let cut = c.in-NoMemory.ensures.played in
     cut_at c.args.script.now.commands _ c.commands-command-items.ensures c.loop-place.place c.command-item.result
-    c.loop-place-test.true c.command-item.is g.S.Sink.stands
-    g.S.Sink.faults g.R.Rendezvous.lists (g.F.Pieces.tells c.args.files.now) (g.F.Files.holds c.args.files.now)
+    c.loop-place-test.true c.command-item.is
+    (record { stands = g.S.Sink.stands; faults = g.S.Sink.faults; lists = g.R.Rendezvous.lists; held = HeldWhere (g.F.Pieces.tells c.args.files.now) (g.F.Files.holds c.args.files.now) })
+    (g.F.Pieces.tells c.args.files.now) (g.F.Files.holds c.args.files.now)
     setting (setting_of c.loop-place.session)
-    c.loop-place.invariant.setting _ _ _ _ _ _ _ _ c.loop-place.invariant.so_far
+    c.loop-place.invariant.setting _ _ _ c.loop-place.invariant.so_far
     (g.F.Pieces.tells c.loop-place.files) (g.F.Files.holds c.loop-place.files) c.loop-place.invariant.still
     c.loop-place.invariant.same c.begun_commands_go_on.ensures g.met.R.Rendezvous.always_runs
     c.threads-threads.ensures.partition (all_in_range setting c.args.script.now.commands c.requires.within.each)
-    cut.did cut.front _ _ cut.starts
+    _ cut.starts
 
 pub loop-place-preserved : goal.loop-place-preserved
 loop-place-preserved g c =
@@ -140,11 +147,11 @@ loop-place-preserved g c =
           one_more_at c.args.script.now.commands _ c.commands-command-items.ensures c.loop-place.place
           c.command-item.result
           c.loop-place-test.true c.command-item.is
-          g.S.Sink.stands g.S.Sink.faults g.R.Rendezvous.lists (g.F.Pieces.tells c.args.files.now)
-          (g.F.Files.holds c.args.files.now) setting (setting_of c.loop-place.session) c.loop-place.invariant.setting
-          _ _ _ _ _ _ _ _
+          (record { stands = g.S.Sink.stands; faults = g.S.Sink.faults; lists = g.R.Rendezvous.lists; held = HeldWhere (g.F.Pieces.tells c.args.files.now) (g.F.Files.holds c.args.files.now) })
+          (g.F.Pieces.tells c.args.files.now) (g.F.Files.holds c.args.files.now) setting (setting_of c.loop-place.session) c.loop-place.invariant.setting
+          _ _ _
           c.loop-place.invariant.so_far (g.F.Pieces.tells c.loop-place.files) (g.F.Files.holds c.loop-place.files)
-          c.loop-place.invariant.still c.loop-place.invariant.same _ _ _ _ _ c.in-Answered.ensures.played
+          c.loop-place.invariant.still c.loop-place.invariant.same _ _ c.in-Answered.ensures.played
           c.all_done-done.result c.all_done-done.ensures c.in_default-end_by.ensures;
       setting = c.in-Answered.ensures.setting ∙ c.loop-place.invariant.setting;
       same = c.in-Answered.ensures.same ∙ c.loop-place.invariant.same;
@@ -156,14 +163,18 @@ loop-place-preserved g c =
 
 pub returns-then-done-clause-played : goal.returns-then-done-clause-played
 returns-then-done-clause-played g c =
-    all_at g.S.Sink.stands g.R.Rendezvous.lists (g.F.Pieces.tells c.args.files.now) (g.F.Files.holds c.args.files.now) _
-    c.args.script.now.commands _ c.commands-command-items.ensures c.loop-place.place c.loop-place.done _ _ _ _ _ _ _ _
+    all_at
+    (record { stands = g.S.Sink.stands; faults = g.S.Sink.faults; lists = g.R.Rendezvous.lists; held = HeldWhere (g.F.Pieces.tells c.args.files.now) (g.F.Files.holds c.args.files.now) })
+    (g.F.Pieces.tells c.args.files.now) (g.F.Files.holds c.args.files.now) _
+    c.args.script.now.commands _ c.commands-command-items.ensures c.loop-place.place c.loop-place.done _ _ _
     c.loop-place-test.false c.loop-place.invariant.so_far
     (ap short_unless c.if-done.true)
 
 pub returns-clause-played : goal.returns-clause-played
 returns-clause-played g c =
-    all_at g.S.Sink.stands g.R.Rendezvous.lists (g.F.Pieces.tells c.args.files.now) (g.F.Files.holds c.args.files.now) _
-    c.args.script.now.commands _ c.commands-command-items.ensures c.loop-place.place c.loop-place.done _ _ _ _ _ _ _ _
+    all_at
+    (record { stands = g.S.Sink.stands; faults = g.S.Sink.faults; lists = g.R.Rendezvous.lists; held = HeldWhere (g.F.Pieces.tells c.args.files.now) (g.F.Files.holds c.args.files.now) })
+    (g.F.Pieces.tells c.args.files.now) (g.F.Files.holds c.args.files.now) _
+    c.args.script.now.commands _ c.commands-command-items.ensures c.loop-place.place c.loop-place.done _ _ _
     c.loop-place-test.false c.loop-place.invariant.so_far
     (ap short_unless c.if-done.false)
