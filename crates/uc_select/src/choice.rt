@@ -93,9 +93,23 @@ pub fn offers(
     ensures { AreOffers catalog.now.entries cores.now force result.items }
 {
     let mut offers = ArrayVec::new();
+    fill_offers(catalog, cores, force, &mut offers);
+    offers
+}
+
+/// The same, into a list that is lent: what it held is let go. Who asks often clears and moves no list of 256 places so.
+pub fn fill_offers(
+    catalog: &Catalog,
+    cores: &[Option<CoreFacts>],
+    force: bool,
+    offers: &mut ArrayVec<Option<u32>, 256>,
+)
+    requires { length cores.now ≤ 256 }
+    ensures { AreOffers catalog.now.entries cores.now force offers.new.items }
+{
+    offers.clear();
     'cores: for place in 0..cores.len() {
         let offer = offer_in_turn(catalog, cores, offers.as_slice(), place, force);
         offers.push(offer);
     }
-    offers
 }

@@ -6,7 +6,7 @@
 mod choice;
 mod fit;
 
-pub use choice::{offer, offers};
+pub use choice::{fill_offers, offer, offers};
 pub use file_entries::CoreFacts;
 pub use fit::{fits, is_safe};
 

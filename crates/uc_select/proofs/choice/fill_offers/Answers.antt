@@ -3,7 +3,7 @@ use Rattle.std.proofs.lemmas.List.{take_more}
 use Rattle.file_entries.specs.declared.facts.CoreFacts.{CoreFacts}
 use Rattle.uc_select.specs.Offers.{AreOffers}
 use Rattle.uc_select.proofs.Best.{offers_push}
-use Rattle.uc_select.proofs.choice.offers.Goals as goal
+use Rattle.uc_select.proofs.choice.fill_offers.Goals as goal
 
 pub cores-preserved : goal.cores-preserved
 cores-preserved c =

@@ -1,6 +1,6 @@
 use Rattle.std.proofs.Common.{◌≡◌, take, length}
 use Rattle.uc_select.specs.Offers.{AreOffers}
-use Rattle.uc_select.proofs.choice.offers.Given as goal
+use Rattle.uc_select.proofs.choice.fill_offers.Given as goal
 
 abbrev pub invariant-cores : goal.invariant-cores
 invariant-cores l = record {
