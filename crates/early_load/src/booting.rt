@@ -50,10 +50,11 @@ pub fn boot(
     if machine.power() != Power::Off {
         return Err(BootAnswer::Booted);
     }
-    let places = match put_offers(catalog, offers, pool) {
-        Ok(places) => places,
+    let mut places = ArrayVec::new();
+    match put_offers(catalog, offers, pool, &mut places) {
+        Ok(()) => {}
         Err(full) => return Err(BootAnswer::PoolFull(full.needed)),
-    };
+    }
     cache.keep_all(places);
     match machine.power_on() {
         Ok(()) => Ok(bring_up_wanted(machine, cache, pool, Wanted::Every)),

@@ -13,25 +13,28 @@ use patch_pool::{PatchId, PatchPool, PoolFull};
 use uc_catalog::Catalog;
 
 /// Puts the entry that each group is offered, in the order of the groups, and each entry once: groups with the same offer
-/// share its patch. Tells for each group the patch of its offer; where these are freed, the pool is as before. There are at
-/// most 256 groups, and each offer is an entry of the catalogue, which keeps the files' bytes. At the first entry for which
-/// no run of blocks is long enough the pool is full; what was put in this call is then freed again.
+/// share its patch. `places` then tells for each group the patch of its offer; where these are freed, the pool is as before.
+/// There are at most 256 groups, and each offer is an entry of the catalogue, which keeps the files' bytes. At the first
+/// entry for which no run of blocks is long enough the pool is full; what was put in this call is then freed again.
+///
+/// `places` is lent, and what it held is let go: who loads often clears and moves no list of 256 places so.
 pub fn put_offers(
     catalog: &Catalog,
     offers: &[Option<u32>],
     pool: &mut PatchPool,
-) -> Result<ArrayVec<Option<PatchId>, 256>, PoolFull>
+    places: &mut ArrayVec<Option<PatchId>, 256>,
+) -> Result<(), PoolFull>
     requires few { length offers.now ≤ 256 }
     requires known { AreEntries catalog.now offers.now }
     requires keeps { IsTrue catalog.now.keeps }
-    ensures put { IfOk result (λ places. ArePut (puts_of (blocks_in pool.old) catalog.now offers.now (patches_of pool.old)) offers.now (patches_of pool.new) places.items) }
-    ensures held { IfOk result (λ places. (g first : ℕ) → place_at places.items g ≡ Some first → HoldsPatch (patches_of pool.new first)) }
-    ensures others { IfOk result (λ places. (block : ℕ) → IsElsewhere places.items block → patches_of pool.new block ≡ patches_of pool.old block) }
-    ensures back { IfOk result (λ places. without places.items (patches_of pool.new) ≡ patches_of pool.old) }
+    ensures put { IfOk result (λ _. ArePut (puts_of (blocks_in pool.old) catalog.now offers.now (patches_of pool.old)) offers.now (patches_of pool.new) places.new.items) }
+    ensures held { IfOk result (λ _. (g first : ℕ) → place_at places.new.items g ≡ Some first → HoldsPatch (patches_of pool.new first)) }
+    ensures others { IfOk result (λ _. (block : ℕ) → IsElsewhere places.new.items block → patches_of pool.new block ≡ patches_of pool.old block) }
+    ensures back { IfOk result (λ _. without places.new.items (patches_of pool.new) ≡ patches_of pool.old) }
     ensures full { IfErr result (λ full. (puts_of (blocks_in pool.old) catalog.now offers.now (patches_of pool.old) ≡ Err full.needed) × (patches_of pool.new ≡ patches_of pool.old)) }
     ensures size { blocks_in pool.new ≡ blocks_in pool.old }
 {
-    let mut places: ArrayVec<Option<PatchId>, 256> = ArrayVec::new();
+    places.clear();
     for g in 0..offers.len() {
         let entry = match offers[g] {
             Some(entry) => entry,
@@ -48,12 +51,12 @@ pub fn put_offers(
         match put_entry(catalog, entry, pool) {
             Ok(id) => places.push(Some(id)),
             Err(full) => {
-                take_back(&places, pool);
+                take_back(places.as_slice(), pool);
                 return Err(full);
             }
         }
     }
-    Ok(places)
+    Ok(())
 }
 
 /// The first of so many groups that is offered this entry.

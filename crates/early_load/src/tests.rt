@@ -1,4 +1,5 @@
 use super::*;
+use arrayvec::ArrayVec;
 use hw_machine::Machine;
 use patch_pool::{PatchId, PatchPool};
 use std::test::Fail;
@@ -11,8 +12,8 @@ fn blocks_wanted(catalog: &Catalog, entry: u32, pool: &mut PatchPool) -> Option<
     if entry >= catalog.len() || !catalog.keeps_bytes() {
         return None;
     }
-    match put_offers(catalog, &[Some(entry)], pool) {
-        Ok(_) => None,
+    match put_offers(catalog, &[Some(entry)], pool, &mut ArrayVec::new()) {
+        Ok(()) => None,
         Err(full) => Some(full.needed),
     }
 }

@@ -5,6 +5,7 @@
 #![tactic(auto)]
 
 mod boot;
+mod load_tables;
 mod loads;
 mod offers;
 mod parts;
@@ -12,6 +13,7 @@ mod plans;
 mod presence;
 mod rows;
 
+pub use load_tables::LoadTables;
 pub use parts::Parts;
 
 #[cfg(test)]

@@ -26,21 +26,22 @@ use uc_catalog::Catalog;
 impl Parts {
     ghost use Rattle.session_parts.specs.Parts.{setting_of, state_of};
 
-    /// Puts the patch of each offer into the region, and tells for each group where that of its offer begins. Where an entry
-    /// finds no room, all stays as it was.
+    /// Puts the patch of each offer into the region; `places` then tells for each group where that of its offer begins. Where
+    /// an entry finds no room, the parts stay as they were.
     pub fn put_load(
         &mut self,
         catalog: &Catalog,
         offers: &[Option<u32>],
-    ) -> Result<ArrayVec<Option<PatchId>, 256>, PoolFull>
+        places: &mut ArrayVec<Option<PatchId>, 256>,
+    ) -> Result<(), PoolFull>
         requires offers { length offers.now ≡ group_count (setting_of self.old).machine.stated.cores }
         requires known { AreEntries catalog.now offers.now }
         requires keeps { IsTrue catalog.now.keeps }
-        ensures put { IfOk result (λ places. IsPut (setting_of self.old) catalog.now.entries offers.now (state_of self.old) (state_of self.new) places.items) }
+        ensures put { IfOk result (λ _. IsPut (setting_of self.old) catalog.now.entries offers.now (state_of self.old) (state_of self.new) places.new.items) }
         ensures full { IfErr result (λ full. (puts_of (setting_of self.old) (state_of self.old) catalog.now.entries offers.now ≡ Err full.needed) × (state_of self.new ≡ state_of self.old)) }
         ensures setting { setting_of self.new ≡ setting_of self.old }
     {
-        put_offers(catalog, offers, &mut self.pool)
+        put_offers(catalog, offers, &mut self.pool, places)
     }
 
     /// Frees what a load put at these places: all is then as before the puts.

@@ -13,7 +13,7 @@ use crate::parts::Parts;
 use arrayvec::ArrayVec;
 use group_offers::{core_facts, firmware_offers};
 use uc_catalog::Catalog;
-use uc_select::{CoreFacts, offers};
+use uc_select::{CoreFacts, fill_offers};
 
 impl Parts {
     ghost use Rattle.session_parts.specs.Parts.{setting_of, state_of};
@@ -40,24 +40,29 @@ impl Parts {
     }
 
     /// The same of all groups.
-    fn present_cores(&self) -> ArrayVec<Option<CoreFacts>, 256>
-        ensures { result.items ≡ map (λ g. core_where (takes_part (setting_of self.now) (state_of self.now) g) (facts_now (setting_of self.now) (state_of self.now) g)) (range_with_len 0 (group_count (setting_of self.now).machine.stated.cores)) }
+    fn present_cores(&self, cores: &mut ArrayVec<Option<CoreFacts>, 256>)
+        ensures { cores.new.items ≡ map (λ g. core_where (takes_part (setting_of self.now) (state_of self.now) g) (facts_now (setting_of self.now) (state_of self.now) g)) (range_with_len 0 (group_count (setting_of self.now).machine.stated.cores)) }
     {
-        let mut cores = ArrayVec::new();
+        cores.clear();
         'groups: for g in 0..self.topology.groups() {
             cores.push(self.present_core(g));
         }
-        cores
     }
 
     /// What a load offers the groups: each that takes part at its present revision, with or without force, and no other. Its
-    /// contract says also that each offer is an entry of the catalogue.
-    pub fn load_offers(&self, catalog: &Catalog, force: bool) -> ArrayVec<Option<u32>, 256>
-        ensures offers { AreLoadOffers (setting_of self.now) (state_of self.now) force catalog.now.entries result.items }
-        ensures known { AreEntries catalog.now result.items }
-        ensures within { All (λ offer. IfSome offer (λ number. number < length catalog.now.entries)) result.items }
+    /// contract says also that each offer is an entry of the catalogue. `cores` is lent for what the groups are.
+    pub fn load_offers(
+        &self,
+        catalog: &Catalog,
+        force: bool,
+        cores: &mut ArrayVec<Option<CoreFacts>, 256>,
+        offers: &mut ArrayVec<Option<u32>, 256>,
+    )
+        ensures offers { AreLoadOffers (setting_of self.now) (state_of self.now) force catalog.now.entries offers.new.items }
+        ensures known { AreEntries catalog.now offers.new.items }
+        ensures within { All (λ offer. IfSome offer (λ number. number < length catalog.now.entries)) offers.new.items }
     {
-        let cores = self.present_cores();
-        offers(catalog, cores.as_slice(), force)
+        self.present_cores(cores);
+        fill_offers(catalog, cores.as_slice(), force, offers);
     }
 }

@@ -27,26 +27,19 @@ use uc_bytes::word_at;
 impl Parts {
     ghost use Rattle.session_parts.specs.Parts.{setting_of, state_of};
 
-    /// The plan of a load that has put its patches at these places, one for each group or none.
-    pub fn plan(&self, places: &[Option<PatchId>]) -> Plan
+    /// Makes of a plan that of a load that has put its patches at these places, one for each group or none.
+    pub fn plan(&self, places: &[Option<PatchId>], plan: &mut Plan)
         requires groups { length places.now ≡ group_count (setting_of self.now).machine.stated.cores }
         requires held { PlacesHeld (state_of self.now).patches places.now }
-        ensures tables { TablesFit result }
-        ensures plan { (entries : List Entry) (offers : List (Option ℕ)) (before : State) (put : IsPut (setting_of self.now) entries offers before (state_of self.now) places.now) → plan_of result ≡ load_plan (setting_of self.now) before put.puts offers }
-        ensures sound { (force : Bool) (names : List (List ℕ)) (reads : List Read) (entries : List Entry) (offers : List (Option ℕ)) (before : State) → IsPut (setting_of self.now) entries offers before (state_of self.now) places.now → Standing (setting_of self.now) before → AllPresent (setting_of self.now) before → ReadAll names reads entries → AreLoadOffers (setting_of self.now) before force entries offers → SomethingOffered offers → IsSound result }
+        ensures tables { TablesFit plan.new }
+        ensures plan { (entries : List Entry) (offers : List (Option ℕ)) (before : State) (put : IsPut (setting_of self.now) entries offers before (state_of self.now) places.now) → plan_of plan.new ≡ load_plan (setting_of self.now) before put.puts offers }
+        ensures sound { (force : Bool) (names : List (List ℕ)) (reads : List Read) (entries : List Entry) (offers : List (Option ℕ)) (before : State) → IsPut (setting_of self.now) entries offers before (state_of self.now) places.now → Standing (setting_of self.now) before → AllPresent (setting_of self.now) before → ReadAll names reads entries → AreLoadOffers (setting_of self.now) before force entries offers → SomethingOffered offers → IsSound plan.new }
     {
-        let (kind, group) = self.by_thread();
-        let (primary, refuse, rev0) = self.by_group();
-        Plan {
-            threads: self.topology.threads(),
-            kind,
-            group,
-            primary,
-            offer: self.offered_revisions(places),
-            refuse,
-            rev0,
-            patience: self.patience,
-        }
+        plan.threads = self.topology.threads();
+        self.by_thread(&mut plan.kind, &mut plan.group);
+        self.by_group(&mut plan.primary, &mut plan.refuse, &mut plan.rev0);
+        self.offered_revisions(places, &mut plan.offer);
+        plan.patience = self.patience;
     }
 
     /// What a thread is in a load.
@@ -62,31 +55,34 @@ impl Parts {
     }
 
     /// What each thread is, and its group.
-    fn by_thread(&self) -> (ArrayVec<Kind, 256>, ArrayVec<u16, 256>)
-        ensures { AreByThread (setting_of self.now) (state_of self.now) (length (setting_of self.now).machine.stated.threads) result.0.items result.1.items }
+    fn by_thread(&self, kind: &mut ArrayVec<Kind, 256>, group: &mut ArrayVec<u16, 256>)
+        ensures { AreByThread (setting_of self.now) (state_of self.now) (length (setting_of self.now).machine.stated.threads) kind.new.items group.new.items }
     {
-        let mut kind = ArrayVec::new();
-        let mut group = ArrayVec::new();
+        kind.clear();
+        group.clear();
         'threads: for t in 0..self.topology.threads() {
             kind.push(self.kind(t));
             group.push(self.machine.group_of(t));
         }
-        (kind, group)
     }
 
     /// The primary of each group, whether it refuses a write, and its revision.
-    fn by_group(&self) -> (ArrayVec<u16, 256>, ArrayVec<bool, 256>, ArrayVec<u32, 256>)
-        ensures { AreByGroup (setting_of self.now) (state_of self.now) (group_count (setting_of self.now).machine.stated.cores) result.0.items result.1.items result.2.items }
+    fn by_group(
+        &self,
+        primary: &mut ArrayVec<u16, 256>,
+        refuse: &mut ArrayVec<bool, 256>,
+        rev0: &mut ArrayVec<u32, 256>,
+    )
+        ensures { AreByGroup (setting_of self.now) (state_of self.now) (group_count (setting_of self.now).machine.stated.cores) primary.new.items refuse.new.items rev0.new.items }
     {
-        let mut primary = ArrayVec::new();
-        let mut refuse = ArrayVec::new();
-        let mut rev0 = ArrayVec::new();
+        primary.clear();
+        refuse.clear();
+        rev0.clear();
         'groups: for g in 0..self.topology.groups() {
             primary.push(self.topology.primary_of(g));
             refuse.push(self.machine.refuses(g));
             rev0.push(self.machine.rev(g));
         }
-        (primary, refuse, rev0)
     }
 
     /// The revision of the patch at a place, as the region lends it.
@@ -99,15 +95,18 @@ impl Parts {
     }
 
     /// The revision of the patch at each place.
-    fn offered_revisions(&self, places: &[Option<PatchId>]) -> ArrayVec<Option<u32>, 256>
+    fn offered_revisions(
+        &self,
+        places: &[Option<PatchId>],
+        revisions: &mut ArrayVec<Option<u32>, 256>,
+    )
         requires few { length places.now ≤ 256 }
         requires held { PlacesHeld (state_of self.now).patches places.now }
-        ensures { result.items ≡ map (revision_put (state_of self.now).patches places.now) (range_with_len 0 (length places.now)) }
+        ensures { revisions.new.items ≡ map (revision_put (state_of self.now).patches places.now) (range_with_len 0 (length places.now)) }
     {
-        let mut revisions = ArrayVec::new();
+        revisions.clear();
         'groups: for g in 0..places.len() {
             revisions.push(self.revision_at(places[g]));
         }
-        revisions
     }
 }

@@ -3,8 +3,6 @@ ghost use Rattle.uc_topology.specs.Stated.{group_count};
 ghost use Rattle.session_parts.specs.Parts.{setting_of, state_of};
 
 use super::*;
-use arrayvec::ArrayVec;
-use ctl_words::Plan;
 use hw_machine::Power;
 use patch_pool::PatchId;
 use rendezvous_steps::Kind;
@@ -60,26 +58,24 @@ fn none_lower(parts: &Parts, revs: &[u32]) -> bool
     true
 }
 
-/// What a load offers, and, where it finds room, where it puts it and its plan. It ends with these revisions.
-fn load(
-    parts: &mut Parts,
-    catalog: &Catalog,
-    revs: &[u32],
-) -> Option<(ArrayVec<Option<u32>, 256>, Plan)> {
+/// What a load offers, and, where it finds room, where it puts it and its plan. It ends with these revisions, if it comes to
+/// its end.
+fn load(parts: &mut Parts, catalog: &Catalog, revs: &[u32], tables: &mut LoadTables) -> bool {
     if !catalog.keeps_bytes() {
-        return None;
+        return false;
     }
-    let offers = parts.load_offers(catalog, false);
-    let Ok(places) = parts.put_load(catalog, offers.as_slice()) else {
-        return None;
-    };
-    let plan = parts.plan(places.as_slice());
+    parts.load_offers(catalog, false, &mut tables.cores, &mut tables.offers);
+    match parts.put_load(catalog, tables.offers.as_slice(), &mut tables.places) {
+        Ok(()) => {}
+        Err(_) => return false,
+    }
+    parts.plan(tables.places.as_slice(), &mut tables.plan);
     if parts.power() == Power::On && none_lower(parts, revs) {
-        parts.finish_load(places.as_slice(), &plan, revs);
-        return Some((offers, plan));
+        parts.finish_load(tables.places.as_slice(), &tables.plan, revs);
+        return true;
     }
-    parts.take_back(places.as_slice());
-    None
+    parts.take_back(tables.places.as_slice());
+    false
 }
 
 /// The revision of a group, the patch that it caches, and how many patches there are.
@@ -99,10 +95,10 @@ fn a_load_keeps_the_patch_that_was_written(rt: HostRuntime) -> Result<(), Fail> 
     let catalog = one_file(alloc)?;
     let mut parts = booted(alloc, &topology, &Catalog::new(alloc), 4096)?;
     assert_eq!(rt; parts.first_missing(), None);
-    let Some((offers, plan)) = load(&mut parts, &catalog, &[0xf0, 0xb4]) else {
-        return Err(Fail::from("no load"));
-    };
-    assert_eq!(rt; offers.as_slice(), [Some(0), Some(0)].as_slice());
+    let mut tables = LoadTables::new();
+    assert!(rt; load(&mut parts, &catalog, &[0xf0, 0xb4], &mut tables));
+    assert_eq!(rt; tables.offers.as_slice(), [Some(0), Some(0)].as_slice());
+    let plan = &tables.plan;
     assert_eq!(rt; plan.threads, 4);
     assert_eq!(rt; plan.kind.as_slice(), [Kind::Online; 4].as_slice());
     assert_eq!(rt; plan.group.as_slice(), [0, 0, 1, 1].as_slice());
@@ -113,11 +109,17 @@ fn a_load_keeps_the_patch_that_was_written(rt: HostRuntime) -> Result<(), Fail> 
     assert_eq!(rt; plan.patience, 10);
     assert_eq!(rt; standing(&parts, 0), Some((0xf0, Some(PatchId(0)), 1)));
     assert_eq!(rt; standing(&parts, 1), Some((0xb4, None, 1)));
-    // The first group has what it is offered, and the other is offered it again.
-    let Some((offers, plan)) = load(&mut parts, &catalog, &[0xf0, 0xf0]) else {
-        return Err(Fail::from("no second load"));
-    };
-    assert_eq!(rt; offers.as_slice(), [None, Some(0)].as_slice());
+    // The first group has what it is offered, and the other is offered it again; the tables are filled anew.
+    assert!(rt; load(&mut parts, &catalog, &[0xf0, 0xf0], &mut tables));
+    assert_eq!(rt; tables.cores.len(), 2);
+    assert_eq!(rt; tables.offers.as_slice(), [None, Some(0)].as_slice());
+    assert_eq!(rt; tables.places.len(), 2);
+    let plan = &tables.plan;
+    assert_eq!(rt; plan.kind.as_slice(), [Kind::Online; 4].as_slice());
+    assert_eq!(rt; plan.group.as_slice(), [0, 0, 1, 1].as_slice());
+    assert_eq!(rt; plan.primary.as_slice(), [0, 2].as_slice());
+    assert_eq!(rt; plan.refuse.as_slice(), [false, false].as_slice());
+    assert_eq!(rt; plan.rev0.as_slice(), [0xf0, 0xb4].as_slice());
     assert_eq!(rt; plan.offer.as_slice(), [None, Some(0xf0)].as_slice());
     assert_eq!(rt; standing(&parts, 0), Some((0xf0, Some(PatchId(0)), 2)));
     assert_eq!(rt; standing(&parts, 1), Some((0xf0, Some(PatchId(2)), 2)));
@@ -132,13 +134,14 @@ fn what_was_not_written_is_freed(rt: HostRuntime) -> Result<(), Fail> {
     };
     let catalog = one_file(alloc)?;
     let mut parts = booted(alloc, &topology, &Catalog::new(alloc), 2)?;
-    assert!(rt; load(&mut parts, &catalog, &[0xb4]).is_some());
+    let mut tables = LoadTables::new();
+    assert!(rt; load(&mut parts, &catalog, &[0xb4], &mut tables));
     assert_eq!(rt; standing(&parts, 0), Some((0xb4, None, 0)));
     // A revision below the present one ends no load.
-    assert!(rt; load(&mut parts, &catalog, &[0xb3]).is_none());
+    assert!(rt; !load(&mut parts, &catalog, &[0xb3], &mut tables));
     assert_eq!(rt; standing(&parts, 0), Some((0xb4, None, 0)));
     let mut parts = booted(alloc, &topology, &Catalog::new(alloc), 1)?;
-    assert!(rt; load(&mut parts, &catalog, &[0xf0]).is_none());
+    assert!(rt; !load(&mut parts, &catalog, &[0xf0], &mut tables));
     assert_eq!(rt; standing(&parts, 0), Some((0xb4, None, 0)));
     let parts = booted(alloc, &topology, &catalog, 2)?;
     assert_eq!(rt; standing(&parts, 0), Some((0xf0, Some(PatchId(0)), 1)));
@@ -171,8 +174,10 @@ fn a_load_wants_primaries_and_the_lowest_threads_of_cores(rt: HostRuntime) -> Re
         assert_eq!(rt; parts.first_missing(), *missing);
         assert!(rt; parts.suspend().is_ok());
         assert_eq!(rt; parts.first_missing(), None);
-        let offers = parts.load_offers(&one_file(alloc)?, false);
-        assert!(rt; offers.iter().all(|offer| offer.is_none()));
+        let mut tables = LoadTables::new();
+        let catalog = one_file(alloc)?;
+        parts.load_offers(&catalog, false, &mut tables.cores, &mut tables.offers);
+        assert!(rt; tables.offers.iter().all(|offer| offer.is_none()));
     }
     Ok(())
 }

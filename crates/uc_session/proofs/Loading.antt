@@ -33,9 +33,8 @@ use Rattle.ctl_words.specs.Plans.{plan_of, IsSound}
 use Rattle.ctl_core.specs.declared.outcomes.Outcome.{Outcome as OutcomeTables}
 use Rattle.ctl_core.specs.declared.runs.RunAnswer.{RunAnswer}
 use Rattle.ctl_core.specs.Outcomes.{outcome_of}
-use Rattle.uc_session.specs.declared.setting_out.Ready.{Ready}
 use Rattle.uc_session.specs.Acts.{Stage}
-use Rattle.uc_session.specs.Loads.{SetsOut}
+use Rattle.uc_session.specs.Loads.{Ready, SetsOut}
 use Rattle.uc_session.specs.Meeting.{RunOutside, RunTraces, CameTo, Meets, cut_short}
 use Rattle.uc_session.specs.Playing.{Does}
 use Rattle.uc_session.proofs.Behind.{come}
@@ -46,11 +45,11 @@ pub record Facts (held : List Read → Type 0) (setting : Setting) (force : Bool
   pub sets : SetsOut held setting force names before now ready
   pub standing : Standing setting before.state
   pub plan_is :
-      (entries : List Entry) (offers : List (Option ℕ)) (old : State) (put : IsPut setting entries offers old now.state ready.places.items) →
+      (entries : List Entry) (offers : List (Option ℕ)) (old : State) (put : IsPut setting entries offers old now.state ready.places) →
       plan_of tables ≡ load_plan setting old put.puts offers
   pub sound_is :
       (force : Bool) (names : List (List ℕ)) (reads : List Read) (entries : List Entry) (offers : List (Option ℕ)) (old : State) →
-      IsPut setting entries offers old now.state ready.places.items →
+      IsPut setting entries offers old now.state ready.places →
       Standing setting old → AllPresent setting old → ReadAll names reads entries →
       AreLoadOffers setting old force entries offers → SomethingOffered offers → IsSound tables
   pub padded_law : (p : Tables) → IsSound p → Padded (plan_of p)
@@ -58,7 +57,7 @@ pub record Facts (held : List Read → Type 0) (setting : Setting) (force : Bool
 -- the same of the setting that the calls before the plan left, and of the places as they were lent
 pub facts :
     (held : List Read → Type 0) (setting first : Setting) (force : Bool) (names : List (List ℕ)) (before now : Stage) (ready : Ready) (tables : Tables) (places : List (Option PatchId)) →
-    setting ≡ first → places ≡ ready.places.items →
+    setting ≡ first → places ≡ ready.places →
     SetsOut held first force names before now ready → Standing first before.state →
     ((entries : List Entry) (offers : List (Option ℕ)) (old : State) (put : IsPut setting entries offers old now.state places) → plan_of tables ≡ load_plan setting old put.puts offers) →
     ((force : Bool) (names : List (List ℕ)) (reads : List Read) (entries : List Entry) (offers : List (Option ℕ)) (old : State) → IsPut setting entries offers old now.state places → Standing setting old → AllPresent setting old → ReadAll names reads entries → AreLoadOffers setting old force entries offers → SomethingOffered offers → IsSound tables) →
@@ -91,7 +90,7 @@ module _ (held : List Read → Type 0) (setting : Setting) (force : Bool) (names
   entries = ready.catalog.entries
 
   abbrev offers : List (Option ℕ)
-  offers = ready.offers.items
+  offers = ready.offers
 
   abbrev puts : Puts
   puts = sets.from.put.puts

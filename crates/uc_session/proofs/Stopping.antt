@@ -1,6 +1,5 @@
 -- A load that does not come to its rendezvous, as a step of a session.
 use Rattle.std.proofs.Common.{◌≡◌, ℕ, Bool, true, List, [], Some, refl, sym, subst}
-use Rattle.std.specs.Prelude.{Result, Ok, Err, MatchResult}
 use Rattle.std.proofs.lemmas.List.Elements.{All-nil}
 use Rattle.uc_io.specs.Faults.{Rose}
 use Rattle.uc_bytes.specs.declared.causes.FileFault.{FileFault}
@@ -12,11 +11,10 @@ use Rattle.session_text.specs.declared.answers.LoadAnswer.TheVariants as load
 use Rattle.session_steps.specs.State.{Setting, first_missing}
 use Rattle.session_steps.specs.Step.{AllPresent, ReadAll}
 use Rattle.session_steps.specs.Calls.{HeldWhere}
-use Rattle.uc_session.specs.declared.setting_out.Ready.{Ready}
 use Rattle.uc_session.specs.declared.setting_out.Stop.{Stop}
 use Rattle.uc_session.specs.declared.setting_out.Stop.TheVariants.{Answer, NoMemory}
 use Rattle.uc_session.specs.Acts.{Stage}
-use Rattle.uc_session.specs.Loads.{SetsOut, SetsOutFrom, StopsFrom, Refuses, Stops}
+use Rattle.uc_session.specs.Loads.{Ready, SetsOut, SetsOutFrom, StopsFrom, Refuses, Stops}
 
 module _ (tells : Type 0) (holds : List ℕ → List ℕ) (setting : Setting) (force : Bool) (names : List (List ℕ)) (before now : Stage) where
   pub busy : (t : ℕ) → first_missing setting before.state ≡ Some t → now.files ≡ before.files →
@@ -116,12 +114,3 @@ module _ (tells : Type 0) (holds : List ℕ → List ℕ) (setting : Setting) (f
         from =
             subst (λ (all : Contents). SetsOutFrom setting force all before.state now.state ready) (sym is.catalog) is;
       }
-
-      -- what a load comes to that goes by what is offered of them
-      pub goes_on : (result : Result Ready Stop)
-          → MatchResult result (SetsOutFrom setting force contents before.state now.state)
-          (λ stop. StopsFrom setting force contents before.state stop × (now.state ≡ before.state))
-          → MatchResult result (SetsOut (HeldWhere tells holds) setting force names before now)
-          (Stops (HeldWhere tells holds) setting force names before now)
-      goes_on (Ok ready) is = sets_out ready is
-      goes_on (Err stop) is = stops stop is.0 is.1

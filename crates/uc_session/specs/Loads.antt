@@ -14,20 +14,30 @@ use Rattle.session_steps.specs.Step.{SessionStep, AllPresent, ReadAll}
 use Rattle.session_steps.specs.Played.{FileCause, is_read_fault}
 use Rattle.session_parts.specs.Boots.{puts_of}
 use Rattle.session_parts.specs.Loads.{IsPut}
-use Rattle.uc_session.specs.declared.setting_out.Ready.{Ready}
+use Rattle.session_parts.specs.declared.load_tables.LoadTables.{LoadTables}
+use Rattle.patch_pool.specs.declared.pool.PatchId.{PatchId}
 use Rattle.uc_session.specs.declared.setting_out.Stop.{Stop}
 use Rattle.uc_session.specs.declared.setting_out.Stop.TheVariants.{Answer, NoMemory}
 use Rattle.uc_session.specs.Acts.{Stage}
+
+-- what a load sets out with: the entries that were read, the one that each group is offered, and where its patch was put
+pub record Ready : Type 0 where
+  pub catalog : Contents
+  pub offers : List (Option ℕ)
+  pub places : List (Option PatchId)
+
+abbrev pub ready_of : Contents → LoadTables → Ready
+ready_of contents tables = record { catalog = contents; offers = tables.offers.items; places = tables.places.items }
 
 -- What is offered of the entries of a catalogue.
 
 -- something is, and it was put, at these places
 pub record SetsOutFrom (setting : Setting) (force : Bool) (contents : Contents) (old new : State) (ready : Ready) : Type 0 where
   pub catalog : ready.catalog ≡ contents
-  pub are_offers : AreLoadOffers setting old force contents.entries ready.offers.items
-  pub something : SomethingOffered ready.offers.items
-  pub within : All (λ offer. IfSome offer (λ number. number < length contents.entries)) ready.offers.items
-  pub put : IsPut setting contents.entries ready.offers.items old new ready.places.items
+  pub are_offers : AreLoadOffers setting old force contents.entries ready.offers
+  pub something : SomethingOffered ready.offers
+  pub within : All (λ offer. IfSome offer (λ number. number < length contents.entries)) ready.offers
+  pub put : IsPut setting contents.entries ready.offers old new ready.places
 
 -- nothing is
 pub record FindsNothing (setting : Setting) (force : Bool) (contents : Contents) (old : State) : Type 0 where

@@ -20,9 +20,8 @@ ghost use Rattle.uc_session.specs.Meeting.{Meets, cut_short};
 ghost use Rattle.uc_session.specs.Playing.{Tells, Does};
 ghost use Rattle.uc_session.specs.Verdicts.{answered};
 
-use crate::acted::Acted;
-use crate::playing::tell;
-use crate::setting_out::{Ready, Stop, set_out};
+use crate::playing::tell_load;
+use crate::setting_out::{Stop, set_out};
 use crate::verdicts::verdict;
 use command_laws::each_command_does_something;
 use ctl_core::{Outcome, Rendezvous, RunAnswer};
@@ -30,11 +29,12 @@ use ctl_words::{Plan, tables_end};
 use play_laws::each_event_keeps_the_rule;
 use rendezvous_steps::Beat;
 use round_laws::the_verdict_is_the_first_that_holds;
-use session_parts::Parts;
+use session_parts::{LoadTables, Parts};
 use session_report::{put_answer, put_load_offers, put_results};
 use session_text::{CommandAnswer, LoadAnswer, Played};
 use std::alloc::Global;
 use uc_bytes::Text;
+use uc_catalog::Catalog;
 use uc_io::{Files, Sink, SinkFailed};
 use uc_topology::Topology;
 
@@ -42,24 +42,25 @@ use uc_topology::Topology;
 fn offer_and_run<R: Rendezvous, S: Sink>(
     alloc: Global,
     topology: &Topology,
-    plan: &Plan,
-    ready: &Ready,
+    catalog: &Catalog,
+    tables: &LoadTables,
     beats: &[Beat],
     how: &mut R,
     out: &mut S,
 ) -> Result<Outcome, RunAnswer>
-    requires count { length ready.now.offers.items ≡ group_count topology.now.stated.cores }
-    requires within { All (λ offer. IfSome offer (λ number. number < length ready.now.catalog.entries)) ready.now.offers.items }
-    requires sound { IsSound plan.now }
-    requires few { plan.now.threads ≤ R.limit how.old }
-    requires in_range { All (BeatInRange plan.now.threads) beats.now }
-    ensures meets { (setting : Setting) (state : State) (puts : Puts) → setting.machine ≡ topology.now → plan_of plan.now ≡ load_plan setting state puts ready.now.offers.items → Meets
-        (record { stands = S.stands; faults = S.faults; lists = R.lists }) (plan_of plan.now) beats.now (load_offers_text setting state ready.now.catalog.entries ready.now.offers.items)
+    requires count { length tables.now.offers.items ≡ group_count topology.now.stated.cores }
+    requires within { All (λ offer. IfSome offer (λ number. number < length catalog.now.entries)) tables.now.offers.items }
+    requires sound { IsSound tables.now.plan }
+    requires few { tables.now.plan.threads ≤ R.limit how.old }
+    requires in_range { All (BeatInRange tables.now.plan.threads) beats.now }
+    ensures meets { (setting : Setting) (state : State) (puts : Puts) → setting.machine ≡ topology.now → plan_of tables.now.plan ≡ load_plan setting state puts tables.now.offers.items → Meets
+        (record { stands = S.stands; faults = S.faults; lists = R.lists }) (plan_of tables.now.plan) beats.now (load_offers_text setting state catalog.now.entries tables.now.offers.items)
         (record { runs = R.runs how.old; sink = out.old }) (record { runs = R.runs how.new; sink = out.new }) result }
     ensures most_stays { R.limit how.new ≡ R.limit how.old }
 {
     tables_end();
-    match put_load_offers(out, topology, plan, &ready.catalog, ready.offers.as_slice()) {
+    let plan = &tables.plan;
+    match put_load_offers(out, topology, plan, catalog, tables.offers.as_slice()) {
         Ok(()) => how.run(alloc, plan, beats, out),
         Err(_) => Err(RunAnswer::WriteFault),
     }
@@ -107,10 +108,12 @@ fn put_end<S: Sink>(
     put_answer(out, names, answer)
 }
 
-/// Loads from the files of these names, 1 to 16, over the schedule of these beats. The heading was written.
+/// Loads from the files of these names, 1 to 16, over the schedule of these beats. The heading was written. The tables are
+/// lent: nothing is taken from what an earlier load left in them.
 pub fn play_load<R: Rendezvous, F: Files, S: Sink>(
     alloc: Global,
     parts: &mut Parts,
+    tables: &mut LoadTables,
     force: bool,
     names: &[Text],
     beats: &[Beat],
@@ -139,22 +142,23 @@ pub fn play_load<R: Rendezvous, F: Files, S: Sink>(
     the_verdict_is_the_first_that_holds();
     tables_end();
     let _topology = parts.topology();
-    let ready = match set_out(alloc, parts, force, names, files) {
-        Ok(ready) => ready,
-        Err(Stop::Answer(answer)) => return tell(out, names, &Acted::load(answer)),
+    let catalog = match set_out(alloc, parts, force, names, files, tables) {
+        Ok(catalog) => catalog,
+        Err(Stop::Answer(answer)) => return tell_load(out, names, answer),
         Err(Stop::NoMemory) => return Played::NoMemory,
     };
-    let plan = parts.plan(ready.places.as_slice());
-    let outcome = match offer_and_run(alloc, parts.topology(), &plan, &ready, beats, how, out) {
+    parts.plan(tables.places.as_slice(), &mut tables.plan);
+    let outcome = match offer_and_run(alloc, parts.topology(), &catalog, tables, beats, how, out) {
         Ok(outcome) => outcome,
         Err(answer) => {
-            parts.take_back(ready.places.as_slice());
+            parts.take_back(tables.places.as_slice());
             return cut_short(answer);
         }
     };
-    parts.finish_load(ready.places.as_slice(), &plan, outcome.revs.as_slice());
-    let answer = command_answer(verdict(&plan, &outcome));
-    match put_end(out, parts.topology(), &plan, &outcome, names, answer) {
+    let plan = &tables.plan;
+    parts.finish_load(tables.places.as_slice(), plan, outcome.revs.as_slice());
+    let answer = command_answer(verdict(plan, &outcome));
+    match put_end(out, parts.topology(), plan, &outcome, names, answer) {
         Ok(()) => Played::Answered(answer),
         Err(_) => Played::WriteFault,
     }

@@ -1,15 +1,19 @@
 //! One command, with its text.
 
-ghost use Rattle.std.specs.Prelude.{◌≡◌, ◌≤◌, ◌++◌, length};
+ghost use Rattle.std.specs.Prelude.{◌≡◌, ◌≤◌, ◌++◌, Bool, false, [], length};
 ghost use Rattle.script_text.specs.declared.command.Command.TheVariants.{Boot};
+ghost use Rattle.session_text.specs.declared.answers.CommandAnswer.TheVariants.{Load};
 ghost use Rattle.session_text.specs.Lines.{answer_line};
 ghost use Rattle.session_laws.specs.Standing.{Standing, InRange};
 ghost use Rattle.session_steps.specs.State.{machine_of};
 ghost use Rattle.session_steps.specs.Did.{ups_text};
 ghost use Rattle.session_steps.specs.Session.{names_in};
 ghost use Rattle.session_steps.specs.Calls.{HeldWhere};
-ghost use Rattle.session_steps.specs.Played.{IsPlayed, SinkCause};
+ghost use Rattle.session_steps.specs.Played.{IsPlayed, SinkCause, is_read_fault};
+ghost use Rattle.session_steps.specs.Step.{SessionStep};
 ghost use Rattle.session_parts.specs.Parts.{setting_of, state_of};
+ghost use Rattle.uc_session.specs.declared.acted.Acted.{Acted as Done};
+ghost use Rattle.uc_session.specs.Acts.{ReadsNoFile, did_by};
 ghost use Rattle.uc_session.specs.Playing.{Tells, Does, BeatsInRange};
 
 use crate::acted::Acted;
@@ -19,9 +23,9 @@ use crate::plain::act;
 use command_laws::each_command_does_something;
 use ctl_core::Rendezvous;
 use script_text::Command;
-use session_parts::Parts;
+use session_parts::{LoadTables, Parts};
 use session_report::put_heading;
-use session_text::Played;
+use session_text::{LoadAnswer, Played};
 use std::alloc::Global;
 use uc_bytes::{NoMemory, Text};
 use uc_io::{Files, Sink};
@@ -34,6 +38,17 @@ pub fn tell<S: Sink>(out: &mut S, names: &[Text], acted: &Acted) -> Played
         Ok(()) => Played::Answered(acted.answer),
         Err(_) => Played::WriteFault,
     }
+}
+
+/// Writes the answer of a load that did not come to its rendezvous. Apart from its caller, since a function clears the room
+/// of all its locals when it begins, and the table of threads that came up is large.
+#[inline(never)]
+pub fn tell_load<S: Sink>(out: &mut S, names: &[Text], answer: LoadAnswer) -> Played
+    ensures { (acted : Done) × (acted.ups.items ≡ []) × (acted.answer ≡ Load answer)
+        × Tells S.stands S.faults out.old out.new (ups_text acted.ups.items ++ answer_line names.now acted.answer)
+        acted.answer result }
+{
+    tell(out, names, &Acted::load(answer))
 }
 
 /// The names of files that a command gives.
@@ -76,11 +91,28 @@ fn play_boot<R: Rendezvous, F: Files, S: Sink>(
     }
 }
 
+/// Does a command that reads no file, and writes its text. The heading was written. Apart from its caller as `tell_load` is.
+#[inline(never)]
+fn play_plain<S: Sink>(parts: &mut Parts, command: &Command, out: &mut S) -> Played
+    requires plain { ReadsNoFile command.now }
+    requires range { InRange (setting_of parts.old) command.now }
+    requires standing { Standing (setting_of parts.old) (state_of parts.old) }
+    ensures acted { (acted : Done) × (is_read_fault acted.answer ≡ false)
+        × ((lists : Bool) → SessionStep lists (setting_of parts.old) (state_of parts.old) command.now (did_by [] acted (state_of parts.new)))
+        × Tells S.stands S.faults out.old out.new (ups_text acted.ups.items ++ answer_line (names_in command.now) acted.answer)
+        acted.answer result }
+    ensures setting { setting_of parts.new ≡ setting_of parts.old }
+{
+    tell(out, names_in(command), &act(parts, command))
+}
+
 /// Does a command, number `number` of its script, and writes its text. After a write fault in what a load shows, or for want
-/// of memory, the parts are as before; after a later write fault they are in the state after the command.
+/// of memory, the parts are as before; after a later write fault they are in the state after the command. The tables are
+/// lent to a load.
 pub fn play<R: Rendezvous, F: Files, S: Sink>(
     alloc: Global,
     parts: &mut Parts,
+    tables: &mut LoadTables,
     command: &Command,
     number: u32,
     how: &mut R,
@@ -120,6 +152,7 @@ pub fn play<R: Rendezvous, F: Files, S: Sink>(
         } => play_load(
             alloc,
             parts,
+            tables,
             *force,
             names.as_slice(),
             beats.as_slice(),
@@ -127,6 +160,6 @@ pub fn play<R: Rendezvous, F: Files, S: Sink>(
             files,
             out,
         ),
-        _ => tell(out, names_in(command), &act(parts, command)),
+        _ => play_plain(parts, command, out),
     }
 }

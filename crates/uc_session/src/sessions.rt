@@ -17,7 +17,7 @@ use hw_machine::{Power, ThreadState};
 use patch_pool::{PatchId, PatchPool};
 use script_text::Command;
 use session_laws::each_state_stands;
-use session_parts::Parts;
+use session_parts::{LoadTables, Parts};
 use session_text::Played;
 use std::alloc::Global;
 use uc_bytes::NoMemory;
@@ -27,9 +27,11 @@ use uc_topology::Topology;
 /// A session on the machine that a topology states: the machine, the region of patches, and what each group caches. Between
 /// two commands its state stands: while power is on thread 0 is up, and the region holds just the patches that groups cache.
 /// It is large, so keep it in one place.
-#[derive(Debug, Drop)]
+#[derive(Drop)]
 pub struct Session {
     pub(crate) parts: Parts,
+    /// Lent to each load, so that none has to make them. What they hold between two commands means nothing.
+    tables: LoadTables,
     ghost standing: { Standing (parts_setting parts) (parts_state parts) },
 }
 
@@ -51,7 +53,10 @@ impl Session {
     {
         each_state_stands();
         let parts = Parts::new(alloc, topology, pool, patience)?;
-        Ok(Session { parts })
+        Ok(Session {
+            parts,
+            tables: LoadTables::new(),
+        })
     }
 
     /// The revision of a group.
@@ -125,6 +130,15 @@ impl Session {
         ensures most_stays { R.limit how.new ≡ R.limit how.old }
     {
         let _topology = self.parts.topology();
-        play(alloc, &mut self.parts, command, number, how, files, out)
+        play(
+            alloc,
+            &mut self.parts,
+            &mut self.tables,
+            command,
+            number,
+            how,
+            files,
+            out,
+        )
     }
 }

@@ -5,26 +5,15 @@ ghost use Rattle.std.specs.List.{list_any};
 ghost use Rattle.session_laws.specs.Standing.{Standing};
 ghost use Rattle.session_steps.specs.Calls.{HeldWhere};
 ghost use Rattle.session_parts.specs.Parts.{setting_of, state_of};
-ghost use Rattle.uc_session.specs.Loads.{SetsOut, Stops, SetsOutFrom, StopsFrom};
+ghost use Rattle.uc_session.specs.Loads.{ready_of, SetsOut, Stops, SetsOutFrom, StopsFrom};
 
-use arrayvec::ArrayVec;
-use patch_pool::PatchId;
-use session_parts::Parts;
+use session_parts::{LoadTables, Parts};
 use session_text::LoadAnswer;
 use std::alloc::Global;
 use uc_bytes::Text;
 use uc_catalog::Catalog;
 use uc_io::Files;
 use update_reads::{FilesAnswer, read_files};
-
-/// What a load sets out with: the entries that were read, the one that each group is offered, and the patch that was put for
-/// it.
-#[derive(Debug, Drop)]
-pub struct Ready {
-    pub catalog: Catalog,
-    pub offers: ArrayVec<Option<u32>, 256>,
-    pub places: ArrayVec<Option<PatchId>, 256>,
-}
 
 /// Why a load does not come to its rendezvous.
 #[derive(Debug, Drop)]
@@ -33,19 +22,25 @@ pub enum Stop {
     NoMemory,
 }
 
-/// Reads the files of these names, 1 to 16, and puts what the groups are offered. Where it stops the parts are as they were.
+/// Reads the files of these names, 1 to 16, and puts what the groups are offered: the tables then say what and where. Where
+/// it stops the parts are as they were.
 pub fn set_out<F: Files>(
     alloc: Global,
     parts: &mut Parts,
     force: bool,
     names: &[Text],
     files: &mut F,
-) -> Result<Ready, Stop>
+    tables: &mut LoadTables,
+) -> Result<Catalog, Stop>
     requires few { length names.now ≤ 16 }
     requires standing { Standing (setting_of parts.old) (state_of parts.old) }
     ensures answer { MatchResult result
-        (SetsOut (HeldWhere (F.tells files.old) (F.holds files.old)) (setting_of parts.old) force names.now (record { state = state_of parts.old; files = F.faults files.old }) (record { state = state_of parts.new; files = F.faults files.new }))
-        (Stops (HeldWhere (F.tells files.old) (F.holds files.old)) (setting_of parts.old) force names.now (record { state = state_of parts.old; files = F.faults files.old }) (record { state = state_of parts.new; files = F.faults files.new })) }
+        (λ catalog. SetsOut (HeldWhere (F.tells files.old) (F.holds files.old)) (setting_of parts.old) force names.now
+        (record { state = state_of parts.old; files = F.faults files.old })
+        (record { state = state_of parts.new; files = F.faults files.new }) (ready_of catalog tables.new))
+        (Stops (HeldWhere (F.tells files.old) (F.holds files.old)) (setting_of parts.old) force names.now
+        (record { state = state_of parts.old; files = F.faults files.old })
+        (record { state = state_of parts.new; files = F.faults files.new })) }
     ensures setting { setting_of parts.new ≡ setting_of parts.old }
     ensures same { F.holds files.new ≡ F.holds files.old }
     ensures still { F.tells files.old → F.tells files.new }
@@ -62,7 +57,10 @@ pub fn set_out<F: Files>(
         }
         Err(FilesAnswer::NoMemory) => return Err(Stop::NoMemory),
     };
-    set_out_from(parts, force, catalog)
+    match set_out_from(parts, force, &catalog, tables) {
+        Ok(()) => Ok(catalog),
+        Err(stop) => Err(stop),
+    }
 }
 
 /// Whether some group is offered anything.
@@ -73,23 +71,23 @@ fn something_offered(offers: &[Option<u32>]) -> bool
 }
 
 /// Puts what the groups are offered of a catalogue's entries.
-fn set_out_from(parts: &mut Parts, force: bool, catalog: Catalog) -> Result<Ready, Stop>
+fn set_out_from(
+    parts: &mut Parts,
+    force: bool,
+    catalog: &Catalog,
+    tables: &mut LoadTables,
+) -> Result<(), Stop>
     requires standing { Standing (setting_of parts.old) (state_of parts.old) }
-    requires keeps { IsTrue catalog.keeps }
-    ensures answer { MatchResult result (λ ready. SetsOutFrom (setting_of parts.old) force catalog (state_of parts.old) (state_of parts.new) ready) (λ stop. StopsFrom (setting_of parts.old) force catalog (state_of parts.old) stop × (state_of parts.new ≡ state_of parts.old)) }
+    requires keeps { IsTrue catalog.now.keeps }
+    ensures answer { MatchResult result (λ _. SetsOutFrom (setting_of parts.old) force catalog.now (state_of parts.old) (state_of parts.new) (ready_of catalog.now tables.new)) (λ stop. StopsFrom (setting_of parts.old) force catalog.now (state_of parts.old) stop × (state_of parts.new ≡ state_of parts.old)) }
     ensures setting { setting_of parts.new ≡ setting_of parts.old }
 {
-    let offers = parts.load_offers(&catalog, force);
-    if !something_offered(offers.as_slice()) {
+    parts.load_offers(catalog, force, &mut tables.cores, &mut tables.offers);
+    if !something_offered(tables.offers.as_slice()) {
         return Err(Stop::Answer(LoadAnswer::NotFound));
     }
-    let places = match parts.put_load(&catalog, offers.as_slice()) {
-        Ok(places) => places,
-        Err(full) => return Err(Stop::Answer(LoadAnswer::PoolFull(full.needed))),
-    };
-    Ok(Ready {
-        catalog,
-        offers,
-        places,
-    })
+    match parts.put_load(catalog, tables.offers.as_slice(), &mut tables.places) {
+        Ok(()) => Ok(()),
+        Err(full) => Err(Stop::Answer(LoadAnswer::PoolFull(full.needed))),
+    }
 }

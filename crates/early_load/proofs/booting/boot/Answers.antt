@@ -23,11 +23,11 @@ returns-in-Ok-power_on-clause-answer c =
     let now = hardware_of c.power_on.new.self in
     let patches = cached_patches (patches_of c.put_offers.new.pool) (cached_of c.keep_all.new.self) in
     let old : State = record { hardware = hardware_of c.args.machine.now; patches = patches_of c.args.pool.now; cached = cached_of c.args.cache.now } in
-    is_booted _ _ _ old now _ _ c.in-Ok.places.items _ _ on.1 c.in-Ok.ensures.put on.0 c.keep_all.ensures.kept
+    is_booted _ _ _ old now _ _ c.put_offers.new.places.items _ _ on.1 c.in-Ok.ensures.put on.0 c.keep_all.ensures.kept
     (c.bring_up_wanted.ensures.brought ∙ ap (λ (s : Setting). bring_up_each s patches now (filter (λ t. true) (threads_of s))) c.in-Ok-power_on.ensures.same_setting)
 
 pub returns-in-Ok-power_on-clause-just_cached : goal.returns-in-Ok-power_on-clause-just_cached
 returns-in-Ok-power_on-clause-just_cached c =
     let on = powered _ _ c.in-Ok-power_on.ensures.answer in
-    let size : length c.in-Ok.places.items ≡ groups_of c.keep_all.new.self = omega (arith, c.in-Ok.ensures.put.groups, c.keep_all.ensures.size, c.requires.groups, c.requires.offers) in
-    just_cached_then _ _ _ c.in-Ok.places.items _ size c.keep_all.ensures.kept (c.requires.empty on.1) c.in-Ok.ensures.held c.in-Ok.ensures.others
+    let size : length c.put_offers.new.places.items ≡ groups_of c.keep_all.new.self = omega (arith, c.in-Ok.ensures.put.groups, c.keep_all.ensures.size, c.requires.groups, c.requires.offers) in
+    just_cached_then _ _ _ c.put_offers.new.places.items _ size c.keep_all.ensures.kept (c.requires.empty on.1) c.in-Ok.ensures.held c.in-Ok.ensures.others

@@ -9,7 +9,7 @@ use Rattle.early_load.proofs.puts.put_offers.Goals as goal
 
 pub loop-g-init : goal.loop-g-init
 loop-g-init c = record {
-  so_far = subst (λ (places : List (Option PatchId)). PutSoFar (blocks_in c.args.pool.now) c.args.catalog.now c.args.offers.now (patches_of c.args.pool.now) (patches_of c.args.pool.now) places 0) (sym c.new-places.ensures) (none_put (blocks_in c.args.pool.now) c.args.catalog.now c.args.offers.now (patches_of c.args.pool.now));
+  so_far = subst (λ (places : List (Option PatchId)). PutSoFar (blocks_in c.args.pool.now) c.args.catalog.now c.args.offers.now (patches_of c.args.pool.now) (patches_of c.args.pool.now) places 0) (sym c.clear.ensures) (none_put (blocks_in c.args.pool.now) c.args.catalog.now c.args.offers.now (patches_of c.args.pool.now));
   size = refl;
 }
 
@@ -41,7 +41,7 @@ returns-in-Err-clause-full c =
     let none = ap (λ (blocks : ℕ). lowest_run (patches_of c.loop-g.pool) blocks (blocks_of (bytes_at c.args.catalog.now c.in-Some.entry))) (sym c.loop-g.invariant.size) ∙ put.put.0 in
     let err : ℕ → Result Puts ℕ = λ n. Err n in (
       found_no_room _ _ _ _ _ _ _ _ c.loop-g.invariant.so_far new none ∙ ap err (sym put.put.1),
-      c.take_back.ensures.freed ∙ ap (λ (l : List (Option PatchId)). without l (patches_of c.put_entry.new.pool)) c.deref-in-Err.ensures.0
+      c.take_back.ensures.freed ∙ ap (λ (l : List (Option PatchId)). without l (patches_of c.put_entry.new.pool)) c.as_slice.ensures.value
           ∙ ap (without c.loop-g.places.items) put.put.2 ∙ taken_back _ _ _ _ _ _ _ c.loop-g.invariant.so_far,
     )
 

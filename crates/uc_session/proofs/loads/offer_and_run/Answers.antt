@@ -8,23 +8,23 @@ use Rattle.uc_session.proofs.loads.offer_and_run.Goals as goal
 
 pub returns-in-Err-clause-meets : goal.returns-in-Err-clause-meets
 returns-in-Err-clause-meets g c = λ setting state puts is_machine is_plan.
-    let plan = plan_of c.args.plan.now in
-    let entries = c.args.ready.now.catalog.entries in
+    let plan = plan_of c.args.tables.now.plan in
+    let entries = c.args.catalog.now.entries in
     not_offered (record { stands = g.S.Sink.stands; faults = g.S.Sink.faults; lists = g.R.Rendezvous.lists }) plan c.args.beats.now
-    (load_offers_text setting state entries c.args.ready.now.offers.items) {E = SinkFailed} c.in-Err.field-0 c.args.out.now c.put_load_offers.new.out
-    (g.met.R.Rendezvous.always_runs plan c.args.beats.now c.requires.sound.sound (c.tables_end.ensures c.args.plan.now c.requires.sound))
+    (load_offers_text setting state entries c.args.tables.now.offers.items) {E = SinkFailed} c.in-Err.field-0 c.args.out.now c.put_load_offers.new.out
+    (g.met.R.Rendezvous.always_runs plan c.args.beats.now c.requires.sound.sound (c.tables_end.ensures c.args.tables.now.plan c.requires.sound))
     (subst (λ (offers : List (Option ℕ)). Writes {E = SinkFailed} g.S.Sink.stands g.S.Sink.faults c.args.out.now c.put_load_offers.new.out (load_offers_text setting state entries offers) (Err c.in-Err.field-0))
-    c.as_slice.ensures.value (c.in-Err.ensures setting state puts c.args.ready.now.offers.items is_machine is_plan))
+    c.as_slice.ensures.value (c.in-Err.ensures setting state puts c.args.tables.now.offers.items is_machine is_plan))
 
 pub returns-in-Ok-clause-meets : goal.returns-in-Ok-clause-meets
 returns-in-Ok-clause-meets g c = λ setting state puts is_machine is_plan.
-    let plan = plan_of c.args.plan.now in
-    let entries = c.args.ready.now.catalog.entries in
+    let plan = plan_of c.args.tables.now.plan in
+    let entries = c.args.catalog.now.entries in
     they_met (record { stands = g.S.Sink.stands; faults = g.S.Sink.faults; lists = g.R.Rendezvous.lists }) plan c.args.beats.now
-    (load_offers_text setting state entries c.args.ready.now.offers.items) {E = SinkFailed}
+    (load_offers_text setting state entries c.args.tables.now.offers.items) {E = SinkFailed}
     (record { runs = g.R.Rendezvous.runs c.args.how.now; sink = c.args.out.now })
     (record { runs = g.R.Rendezvous.runs c.run.new.self; sink = c.run.new.out }) c.put_load_offers.new.out c.run.result
-    (g.met.R.Rendezvous.always_runs plan c.args.beats.now c.requires.sound.sound (c.tables_end.ensures c.args.plan.now c.requires.sound))
+    (g.met.R.Rendezvous.always_runs plan c.args.beats.now c.requires.sound.sound (c.tables_end.ensures c.args.tables.now.plan c.requires.sound))
     (subst (λ (offers : List (Option ℕ)). Writes {E = SinkFailed} g.S.Sink.stands g.S.Sink.faults c.args.out.now c.put_load_offers.new.out (load_offers_text setting state entries offers) (Ok tt))
-    c.as_slice.ensures.value (c.in-Ok.ensures setting state puts c.args.ready.now.offers.items is_machine is_plan))
+    c.as_slice.ensures.value (c.in-Ok.ensures setting state puts c.args.tables.now.offers.items is_machine is_plan))
     c.run.ensures.answer

@@ -22,7 +22,7 @@ use Rattle.ctl_words.specs.Plans.{plan_of}
 use Rattle.ctl_core.specs.Outcomes.{outcome_of}
 use Rattle.uc_topology.specs.Stated.{Machine, group_count}
 use Rattle.uc_session.specs.Acts.{Stage}
-use Rattle.uc_session.specs.Loads.{Refuses, Stops}
+use Rattle.uc_session.specs.Loads.{ready_of, Refuses, Stops}
 use Rattle.uc_session.specs.Playing.{Does}
 use Rattle.uc_session.proofs.Acting.{by_answer}
 use Rattle.uc_session.proofs.Told.{acted_does, begun}
@@ -43,12 +43,12 @@ returns-in-Err-Answer-clause-does g c =
     acted_does
     (record { stands = g.S.Sink.stands; faults = g.S.Sink.faults; lists = g.R.Rendezvous.lists; held = HeldWhere (g.F.Pieces.tells c.args.files.now) (g.F.Files.holds c.args.files.now) }) (setting_of c.args.parts.now) one
     (record { state = state_of c.args.parts.now; files = g.F.Pieces.faults c.args.files.now; runs = g.R.Rendezvous.runs c.args.how.now; sink = c.args.out.now })
-    (record { state = state_of c.set_out.new.parts; files = g.F.Pieces.faults c.set_out.new.files; runs = g.R.Rendezvous.runs c.args.how.now; sink = c.tell.new.out })
-    c.load.result c.args.names.now c.tell.result
+    (record { state = state_of c.set_out.new.parts; files = g.F.Pieces.faults c.set_out.new.files; runs = g.R.Rendezvous.runs c.args.how.now; sink = c.tell_load.new.out })
+    c.tell_load.ensures.0 c.args.names.now c.tell_load.result
     (by_answer held (setting_of c.args.parts.now) one before now
-    c.load.result refuses.reads (Load c.in-Err-Answer.answer) c.load.ensures.ups (c.load.ensures.answer ∙ ap Load c.in-Err-Answer.answer-is) refuses.same refuses.is_held
+    c.tell_load.ensures.0 refuses.reads (Load c.in-Err-Answer.answer) c.tell_load.ensures.1 (c.tell_load.ensures.2 ∙ ap Load c.in-Err-Answer.answer-is) refuses.same refuses.is_held
     (λ lists. refuses.step lists c.args.beats.now) refuses.cause)
-    refl refl c.tell.ensures
+    refl refl c.tell_load.ensures.3
 
 pub returns-in-Err-NoMemory-clause-does : goal.returns-in-Err-NoMemory-clause-does
 returns-in-Err-NoMemory-clause-does g c =
@@ -76,10 +76,10 @@ offer_and_run-requires-clause-sound g c =
     let before : Stage = record { state = state_of c.args.parts.now; files = g.F.Pieces.faults c.args.files.now } in
     let now : Stage = record { state = state_of c.set_out.new.parts; files = g.F.Pieces.faults c.set_out.new.files } in
     let known =
-    loading.facts held (setting_of c.set_out.new.parts) (setting_of c.args.parts.now) c.args.force c.args.names.now before now c.in-Ok.ready c.plan-plan.result
-    c.as_slice.result.now c.in-Ok.ensures.setting c.as_slice.ensures.value c.in-Ok.ensures.answer c.requires.standing c.plan-plan.ensures.plan c.plan-plan.ensures.sound
+    loading.facts held (setting_of c.set_out.new.parts) (setting_of c.args.parts.now) c.args.force c.args.names.now before now (ready_of c.in-Ok.catalog c.set_out.new.tables) c.plan.new.plan
+    c.as_slice.result.now c.in-Ok.ensures.setting c.as_slice.ensures.value c.in-Ok.ensures.answer c.requires.standing c.plan.ensures.plan c.plan.ensures.sound
     c.tables_end.ensures in
-    loading.is_sound held (setting_of c.set_out.new.parts) c.args.force c.args.names.now before now c.in-Ok.ready c.plan-plan.result known
+    loading.is_sound held (setting_of c.set_out.new.parts) c.args.force c.args.names.now before now (ready_of c.in-Ok.catalog c.set_out.new.tables) c.plan.new.plan known
 
 pub offer_and_run-requires-clause-few : goal.offer_and_run-requires-clause-few
 offer_and_run-requires-clause-few g c =
@@ -87,11 +87,11 @@ offer_and_run-requires-clause-few g c =
     let before : Stage = record { state = state_of c.args.parts.now; files = g.F.Pieces.faults c.args.files.now } in
     let now : Stage = record { state = state_of c.set_out.new.parts; files = g.F.Pieces.faults c.set_out.new.files } in
     let known =
-    loading.facts held (setting_of c.set_out.new.parts) (setting_of c.args.parts.now) c.args.force c.args.names.now before now c.in-Ok.ready c.plan-plan.result
-    c.as_slice.result.now c.in-Ok.ensures.setting c.as_slice.ensures.value c.in-Ok.ensures.answer c.requires.standing c.plan-plan.ensures.plan c.plan-plan.ensures.sound
+    loading.facts held (setting_of c.set_out.new.parts) (setting_of c.args.parts.now) c.args.force c.args.names.now before now (ready_of c.in-Ok.catalog c.set_out.new.tables) c.plan.new.plan
+    c.as_slice.result.now c.in-Ok.ensures.setting c.as_slice.ensures.value c.in-Ok.ensures.answer c.requires.standing c.plan.ensures.plan c.plan.ensures.sound
     c.tables_end.ensures in
     subst (λ (n : ℕ). n ≤ g.R.Rendezvous.limit c.args.how.now)
-    (ap (λ (s : Setting). (machine_of s).threads) (sym c.in-Ok.ensures.setting) ∙ sym (loading.threads_are held (setting_of c.set_out.new.parts) c.args.force c.args.names.now before now c.in-Ok.ready c.plan-plan.result known))
+    (ap (λ (s : Setting). (machine_of s).threads) (sym c.in-Ok.ensures.setting) ∙ sym (loading.threads_are held (setting_of c.set_out.new.parts) c.args.force c.args.names.now before now (ready_of c.in-Ok.catalog c.set_out.new.tables) c.plan.new.plan known))
     c.requires.most
 
 pub offer_and_run-requires-clause-in_range : goal.offer_and_run-requires-clause-in_range
@@ -100,11 +100,11 @@ offer_and_run-requires-clause-in_range g c =
     let before : Stage = record { state = state_of c.args.parts.now; files = g.F.Pieces.faults c.args.files.now } in
     let now : Stage = record { state = state_of c.set_out.new.parts; files = g.F.Pieces.faults c.set_out.new.files } in
     let known =
-    loading.facts held (setting_of c.set_out.new.parts) (setting_of c.args.parts.now) c.args.force c.args.names.now before now c.in-Ok.ready c.plan-plan.result
-    c.as_slice.result.now c.in-Ok.ensures.setting c.as_slice.ensures.value c.in-Ok.ensures.answer c.requires.standing c.plan-plan.ensures.plan c.plan-plan.ensures.sound
+    loading.facts held (setting_of c.set_out.new.parts) (setting_of c.args.parts.now) c.args.force c.args.names.now before now (ready_of c.in-Ok.catalog c.set_out.new.tables) c.plan.new.plan
+    c.as_slice.result.now c.in-Ok.ensures.setting c.as_slice.ensures.value c.in-Ok.ensures.answer c.requires.standing c.plan.ensures.plan c.plan.ensures.sound
     c.tables_end.ensures in
     subst (λ (n : ℕ). All (BeatInRange n) c.args.beats.now)
-    (ap (λ (s : Setting). (machine_of s).threads) (sym c.in-Ok.ensures.setting) ∙ sym (loading.threads_are held (setting_of c.set_out.new.parts) c.args.force c.args.names.now before now c.in-Ok.ready c.plan-plan.result known))
+    (ap (λ (s : Setting). (machine_of s).threads) (sym c.in-Ok.ensures.setting) ∙ sym (loading.threads_are held (setting_of c.set_out.new.parts) c.args.force c.args.names.now before now (ready_of c.in-Ok.catalog c.set_out.new.tables) c.plan.new.plan known))
     c.requires.beats
 
 pub returns-in-Err-clause-does : goal.returns-in-Err-clause-does
@@ -113,8 +113,8 @@ returns-in-Err-clause-does g c =
     let before : Stage = record { state = state_of c.args.parts.now; files = g.F.Pieces.faults c.args.files.now } in
     let now : Stage = record { state = state_of c.set_out.new.parts; files = g.F.Pieces.faults c.set_out.new.files } in
     let known =
-    loading.facts held (setting_of c.set_out.new.parts) (setting_of c.args.parts.now) c.args.force c.args.names.now before now c.in-Ok.ready c.plan-plan.result
-    c.as_slice.result.now c.in-Ok.ensures.setting c.as_slice.ensures.value c.in-Ok.ensures.answer c.requires.standing c.plan-plan.ensures.plan c.plan-plan.ensures.sound
+    loading.facts held (setting_of c.set_out.new.parts) (setting_of c.args.parts.now) c.args.force c.args.names.now before now (ready_of c.in-Ok.catalog c.set_out.new.tables) c.plan.new.plan
+    c.as_slice.result.now c.in-Ok.ensures.setting c.as_slice.ensures.value c.in-Ok.ensures.answer c.requires.standing c.plan.ensures.plan c.plan.ensures.sound
     c.tables_end.ensures in
     let one = LoadCommand c.args.force c.args.names.now c.args.beats.now in
     let outside : Outside _ =
@@ -122,13 +122,13 @@ returns-in-Err-clause-does g c =
     let found : Situation _ =
     record { state = state_of c.args.parts.now; files = g.F.Pieces.faults c.args.files.now; runs = g.R.Rendezvous.runs c.args.how.now; sink = c.args.out.now } in
     let came =
-    loading.stopped held (setting_of c.set_out.new.parts) c.args.force c.args.names.now before now c.in-Ok.ready c.plan-plan.result known
+    loading.stopped held (setting_of c.set_out.new.parts) c.args.force c.args.names.now before now (ready_of c.in-Ok.catalog c.set_out.new.tables) c.plan.new.plan known
     (record { stands = g.S.Sink.stands; faults = g.S.Sink.faults; lists = g.R.Rendezvous.lists }) c.args.beats.now
     (record { runs = g.R.Rendezvous.runs c.args.how.now; sink = c.args.out.now }) (g.R.Rendezvous.runs c.offer_and_run.new.how) c.offer_and_run.new.out c.the_verdict_is_the_first_that_holds.ensures.holds c.in-Err.answer
     (λ s state p is_machine is_plan. c.in-Err.ensures.meets s state p (is_machine ∙ sym c.topology.ensures.machine) is_plan)
     (state_of c.take_back.new.self)
     (c.take_back.ensures.back (setting_of c.set_out.new.parts) _ _ (state_of c.args.parts.now)
-    (subst (λ (all : List (Option PatchId)). IsPut (setting_of c.set_out.new.parts) c.in-Ok.ready.catalog.entries c.in-Ok.ready.offers.items (state_of c.args.parts.now) (state_of c.set_out.new.parts) all)
+    (subst (λ (all : List (Option PatchId)). IsPut (setting_of c.set_out.new.parts) c.in-Ok.catalog.entries c.set_out.new.tables.offers.items (state_of c.args.parts.now) (state_of c.set_out.new.parts) all)
     (sym c.as_slice-in-Err.ensures.value) known.sets.from.put)) in
     subst (λ (s : Setting). Does outside s one found (record { state = state_of c.take_back.new.self; files = g.F.Pieces.faults c.set_out.new.files; runs = g.R.Rendezvous.runs c.offer_and_run.new.how; sink = c.offer_and_run.new.out }) c.cut_short.result)
     c.in-Ok.ensures.setting (subst (λ (come : Played). Does outside (setting_of c.set_out.new.parts) one found (record { state = state_of c.take_back.new.self; files = g.F.Pieces.faults c.set_out.new.files; runs = g.R.Rendezvous.runs c.offer_and_run.new.how; sink = c.offer_and_run.new.out }) come)
@@ -140,10 +140,10 @@ finish_load-requires-clause-power g c =
     let before : Stage = record { state = state_of c.args.parts.now; files = g.F.Pieces.faults c.args.files.now } in
     let now : Stage = record { state = state_of c.set_out.new.parts; files = g.F.Pieces.faults c.set_out.new.files } in
     let known =
-    loading.facts held (setting_of c.set_out.new.parts) (setting_of c.args.parts.now) c.args.force c.args.names.now before now c.in-Ok.ready c.plan-plan.result
-    c.as_slice.result.now c.in-Ok.ensures.setting c.as_slice.ensures.value c.in-Ok.ensures.answer c.requires.standing c.plan-plan.ensures.plan c.plan-plan.ensures.sound
+    loading.facts held (setting_of c.set_out.new.parts) (setting_of c.args.parts.now) c.args.force c.args.names.now before now (ready_of c.in-Ok.catalog c.set_out.new.tables) c.plan.new.plan
+    c.as_slice.result.now c.in-Ok.ensures.setting c.as_slice.ensures.value c.in-Ok.ensures.answer c.requires.standing c.plan.ensures.plan c.plan.ensures.sound
     c.tables_end.ensures in
-    loading.power_is_on held (setting_of c.set_out.new.parts) c.args.force c.args.names.now before now c.in-Ok.ready c.plan-plan.result known
+    loading.power_is_on held (setting_of c.set_out.new.parts) c.args.force c.args.names.now before now (ready_of c.in-Ok.catalog c.set_out.new.tables) c.plan.new.plan known
 
 pub finish_load-requires-clause-revs : goal.finish_load-requires-clause-revs
 finish_load-requires-clause-revs g c =
@@ -151,10 +151,10 @@ finish_load-requires-clause-revs g c =
     let before : Stage = record { state = state_of c.args.parts.now; files = g.F.Pieces.faults c.args.files.now } in
     let now : Stage = record { state = state_of c.set_out.new.parts; files = g.F.Pieces.faults c.set_out.new.files } in
     let known =
-    loading.facts held (setting_of c.set_out.new.parts) (setting_of c.args.parts.now) c.args.force c.args.names.now before now c.in-Ok.ready c.plan-plan.result
-    c.as_slice.result.now c.in-Ok.ensures.setting c.as_slice.ensures.value c.in-Ok.ensures.answer c.requires.standing c.plan-plan.ensures.plan c.plan-plan.ensures.sound
+    loading.facts held (setting_of c.set_out.new.parts) (setting_of c.args.parts.now) c.args.force c.args.names.now before now (ready_of c.in-Ok.catalog c.set_out.new.tables) c.plan.new.plan
+    c.as_slice.result.now c.in-Ok.ensures.setting c.as_slice.ensures.value c.in-Ok.ensures.answer c.requires.standing c.plan.ensures.plan c.plan.ensures.sound
     c.tables_end.ensures in
-    ap length c.as_slice-3.ensures.value ∙ loading.revs_count held (setting_of c.set_out.new.parts) c.args.force c.args.names.now before now c.in-Ok.ready c.plan-plan.result known
+    ap length c.as_slice-3.ensures.value ∙ loading.revs_count held (setting_of c.set_out.new.parts) c.args.force c.args.names.now before now (ready_of c.in-Ok.catalog c.set_out.new.tables) c.plan.new.plan known
     (record { stands = g.S.Sink.stands; faults = g.S.Sink.faults; lists = g.R.Rendezvous.lists }) c.args.beats.now
     (record { runs = g.R.Rendezvous.runs c.args.how.now; sink = c.args.out.now }) (g.R.Rendezvous.runs c.offer_and_run.new.how) c.offer_and_run.new.out c.each_event_keeps_the_rule.ensures.event c.each_event_keeps_the_rule.ensures.opening c.in-Ok-offer_and_run.outcome
     (λ s state p is_machine is_plan. c.in-Ok-offer_and_run.ensures.meets s state p (is_machine ∙ sym c.topology.ensures.machine) is_plan)
@@ -165,12 +165,12 @@ finish_load-requires-clause-no_lower g c =
     let before : Stage = record { state = state_of c.args.parts.now; files = g.F.Pieces.faults c.args.files.now } in
     let now : Stage = record { state = state_of c.set_out.new.parts; files = g.F.Pieces.faults c.set_out.new.files } in
     let known =
-    loading.facts held (setting_of c.set_out.new.parts) (setting_of c.args.parts.now) c.args.force c.args.names.now before now c.in-Ok.ready c.plan-plan.result
-    c.as_slice.result.now c.in-Ok.ensures.setting c.as_slice.ensures.value c.in-Ok.ensures.answer c.requires.standing c.plan-plan.ensures.plan c.plan-plan.ensures.sound
+    loading.facts held (setting_of c.set_out.new.parts) (setting_of c.args.parts.now) c.args.force c.args.names.now before now (ready_of c.in-Ok.catalog c.set_out.new.tables) c.plan.new.plan
+    c.as_slice.result.now c.in-Ok.ensures.setting c.as_slice.ensures.value c.in-Ok.ensures.answer c.requires.standing c.plan.ensures.plan c.plan.ensures.sound
     c.tables_end.ensures in
     λ group below.
     subst (λ (revs : List ℕ). (state_of c.set_out.new.parts).hardware.rev group ≤ slice_index revs group) (sym c.as_slice-3.ensures.value)
-    (loading.no_lower held (setting_of c.set_out.new.parts) c.args.force c.args.names.now before now c.in-Ok.ready c.plan-plan.result known
+    (loading.no_lower held (setting_of c.set_out.new.parts) c.args.force c.args.names.now before now (ready_of c.in-Ok.catalog c.set_out.new.tables) c.plan.new.plan known
     (record { stands = g.S.Sink.stands; faults = g.S.Sink.faults; lists = g.R.Rendezvous.lists }) c.args.beats.now
     (record { runs = g.R.Rendezvous.runs c.args.how.now; sink = c.args.out.now }) (g.R.Rendezvous.runs c.offer_and_run.new.how) c.offer_and_run.new.out c.each_event_keeps_the_rule.ensures.event c.each_event_keeps_the_rule.ensures.opening c.in-Ok-offer_and_run.outcome
     (λ s state p is_machine is_plan. c.in-Ok-offer_and_run.ensures.meets s state p (is_machine ∙ sym c.topology.ensures.machine) is_plan) g.met.R.Rendezvous.never_falls group below)
@@ -181,10 +181,10 @@ verdict-requires-clause-ends g c =
     let before : Stage = record { state = state_of c.args.parts.now; files = g.F.Pieces.faults c.args.files.now } in
     let now : Stage = record { state = state_of c.set_out.new.parts; files = g.F.Pieces.faults c.set_out.new.files } in
     let known =
-    loading.facts held (setting_of c.set_out.new.parts) (setting_of c.args.parts.now) c.args.force c.args.names.now before now c.in-Ok.ready c.plan-plan.result
-    c.as_slice.result.now c.in-Ok.ensures.setting c.as_slice.ensures.value c.in-Ok.ensures.answer c.requires.standing c.plan-plan.ensures.plan c.plan-plan.ensures.sound
+    loading.facts held (setting_of c.set_out.new.parts) (setting_of c.args.parts.now) c.args.force c.args.names.now before now (ready_of c.in-Ok.catalog c.set_out.new.tables) c.plan.new.plan
+    c.as_slice.result.now c.in-Ok.ensures.setting c.as_slice.ensures.value c.in-Ok.ensures.answer c.requires.standing c.plan.ensures.plan c.plan.ensures.sound
     c.tables_end.ensures in
-    loading.ends_count held (setting_of c.set_out.new.parts) c.args.force c.args.names.now before now c.in-Ok.ready c.plan-plan.result known
+    loading.ends_count held (setting_of c.set_out.new.parts) c.args.force c.args.names.now before now (ready_of c.in-Ok.catalog c.set_out.new.tables) c.plan.new.plan known
     (record { stands = g.S.Sink.stands; faults = g.S.Sink.faults; lists = g.R.Rendezvous.lists }) c.args.beats.now
     (record { runs = g.R.Rendezvous.runs c.args.how.now; sink = c.args.out.now }) (g.R.Rendezvous.runs c.offer_and_run.new.how) c.offer_and_run.new.out c.each_event_keeps_the_rule.ensures.event c.each_event_keeps_the_rule.ensures.opening c.in-Ok-offer_and_run.outcome
     (λ s state p is_machine is_plan. c.in-Ok-offer_and_run.ensures.meets s state p (is_machine ∙ sym c.topology.ensures.machine) is_plan)
@@ -195,10 +195,10 @@ verdict-requires-clause-decide g c =
     let before : Stage = record { state = state_of c.args.parts.now; files = g.F.Pieces.faults c.args.files.now } in
     let now : Stage = record { state = state_of c.set_out.new.parts; files = g.F.Pieces.faults c.set_out.new.files } in
     let known =
-    loading.facts held (setting_of c.set_out.new.parts) (setting_of c.args.parts.now) c.args.force c.args.names.now before now c.in-Ok.ready c.plan-plan.result
-    c.as_slice.result.now c.in-Ok.ensures.setting c.as_slice.ensures.value c.in-Ok.ensures.answer c.requires.standing c.plan-plan.ensures.plan c.plan-plan.ensures.sound
+    loading.facts held (setting_of c.set_out.new.parts) (setting_of c.args.parts.now) c.args.force c.args.names.now before now (ready_of c.in-Ok.catalog c.set_out.new.tables) c.plan.new.plan
+    c.as_slice.result.now c.in-Ok.ensures.setting c.as_slice.ensures.value c.in-Ok.ensures.answer c.requires.standing c.plan.ensures.plan c.plan.ensures.sound
     c.tables_end.ensures in
-    loading.decided held (setting_of c.set_out.new.parts) c.args.force c.args.names.now before now c.in-Ok.ready c.plan-plan.result known
+    loading.decided held (setting_of c.set_out.new.parts) c.args.force c.args.names.now before now (ready_of c.in-Ok.catalog c.set_out.new.tables) c.plan.new.plan known
     (record { stands = g.S.Sink.stands; faults = g.S.Sink.faults; lists = g.R.Rendezvous.lists }) c.args.beats.now
     (record { runs = g.R.Rendezvous.runs c.args.how.now; sink = c.args.out.now }) (g.R.Rendezvous.runs c.offer_and_run.new.how) c.offer_and_run.new.out c.each_event_keeps_the_rule.ensures.event c.each_event_keeps_the_rule.ensures.opening c.in-Ok-offer_and_run.outcome
     (λ s state p is_machine is_plan. c.in-Ok-offer_and_run.ensures.meets s state p (is_machine ∙ sym c.topology.ensures.machine) is_plan)
@@ -209,10 +209,10 @@ put_end-requires g c =
     let before : Stage = record { state = state_of c.args.parts.now; files = g.F.Pieces.faults c.args.files.now } in
     let now : Stage = record { state = state_of c.set_out.new.parts; files = g.F.Pieces.faults c.set_out.new.files } in
     let known =
-    loading.facts held (setting_of c.set_out.new.parts) (setting_of c.args.parts.now) c.args.force c.args.names.now before now c.in-Ok.ready c.plan-plan.result
-    c.as_slice.result.now c.in-Ok.ensures.setting c.as_slice.ensures.value c.in-Ok.ensures.answer c.requires.standing c.plan-plan.ensures.plan c.plan-plan.ensures.sound
+    loading.facts held (setting_of c.set_out.new.parts) (setting_of c.args.parts.now) c.args.force c.args.names.now before now (ready_of c.in-Ok.catalog c.set_out.new.tables) c.plan.new.plan
+    c.as_slice.result.now c.in-Ok.ensures.setting c.as_slice.ensures.value c.in-Ok.ensures.answer c.requires.standing c.plan.ensures.plan c.plan.ensures.sound
     c.tables_end.ensures in
-    loading.revs_count held (setting_of c.set_out.new.parts) c.args.force c.args.names.now before now c.in-Ok.ready c.plan-plan.result known
+    loading.revs_count held (setting_of c.set_out.new.parts) c.args.force c.args.names.now before now (ready_of c.in-Ok.catalog c.set_out.new.tables) c.plan.new.plan known
     (record { stands = g.S.Sink.stands; faults = g.S.Sink.faults; lists = g.R.Rendezvous.lists }) c.args.beats.now
     (record { runs = g.R.Rendezvous.runs c.args.how.now; sink = c.args.out.now }) (g.R.Rendezvous.runs c.offer_and_run.new.how) c.offer_and_run.new.out c.each_event_keeps_the_rule.ensures.event c.each_event_keeps_the_rule.ensures.opening c.in-Ok-offer_and_run.outcome
     (λ s state p is_machine is_plan. c.in-Ok-offer_and_run.ensures.meets s state p (is_machine ∙ sym c.topology.ensures.machine) is_plan)
@@ -225,18 +225,18 @@ returns-in-Ok-put_end-clause-does g c =
     let before : Stage = record { state = state_of c.args.parts.now; files = g.F.Pieces.faults c.args.files.now } in
     let now : Stage = record { state = state_of c.set_out.new.parts; files = g.F.Pieces.faults c.set_out.new.files } in
     let known =
-    loading.facts held (setting_of c.set_out.new.parts) (setting_of c.args.parts.now) c.args.force c.args.names.now before now c.in-Ok.ready c.plan-plan.result
-    c.as_slice.result.now c.in-Ok.ensures.setting c.as_slice.ensures.value c.in-Ok.ensures.answer c.requires.standing c.plan-plan.ensures.plan c.plan-plan.ensures.sound
+    loading.facts held (setting_of c.set_out.new.parts) (setting_of c.args.parts.now) c.args.force c.args.names.now before now (ready_of c.in-Ok.catalog c.set_out.new.tables) c.plan.new.plan
+    c.as_slice.result.now c.in-Ok.ensures.setting c.as_slice.ensures.value c.in-Ok.ensures.answer c.requires.standing c.plan.ensures.plan c.plan.ensures.sound
     c.tables_end.ensures in
     let same = c.command_answer-answer.ensures ∙ c.verdict.ensures.is_answer in
-    let made = known.plan_is c.in-Ok.ready.catalog.entries c.in-Ok.ready.offers.items (state_of c.args.parts.now) known.sets.from.put in
+    let made = known.plan_is c.in-Ok.catalog.entries c.set_out.new.tables.offers.items (state_of c.args.parts.now) known.sets.from.put in
     let kept =
     subst
-    (λ (all : List (Option PatchId)). (entries : List Entry) (offers : List (Option ℕ)) (before : State) (outcome : Outcome) (put : IsPut (setting_of c.set_out.new.parts) entries offers before (state_of c.set_out.new.parts) all) → plan_of c.plan-plan.result ≡ load_plan (setting_of c.set_out.new.parts) before put.puts offers → outcome.revs ≡ c.as_slice-3.result.now → state_of c.finish_load.new.self ≡ loaded (setting_of c.set_out.new.parts) before put.puts offers (plan_of c.plan-plan.result) outcome)
+    (λ (all : List (Option PatchId)). (entries : List Entry) (offers : List (Option ℕ)) (before : State) (outcome : Outcome) (put : IsPut (setting_of c.set_out.new.parts) entries offers before (state_of c.set_out.new.parts) all) → plan_of c.plan.new.plan ≡ load_plan (setting_of c.set_out.new.parts) before put.puts offers → outcome.revs ≡ c.as_slice-3.result.now → state_of c.finish_load.new.self ≡ loaded (setting_of c.set_out.new.parts) before put.puts offers (plan_of c.plan.new.plan) outcome)
     c.as_slice-2.ensures.value c.finish_load.ensures.kept in
     let wrote =
-    subst (λ (a : CommandAnswer). Writes {E = SinkFailed} g.S.Sink.stands g.S.Sink.faults c.offer_and_run.new.out c.put_end.new.out (results_text (setting_of c.set_out.new.parts) (state_of c.args.parts.now) (plan_of c.plan-plan.result) (outcome_of c.in-Ok-offer_and_run.outcome) ++ answer_line c.args.names.now a) (Ok tt)) same
-    (c.in-Ok-put_end.ensures (setting_of c.set_out.new.parts) (state_of c.args.parts.now) known.sets.from.put.puts c.in-Ok.ready.offers.items
+    subst (λ (a : CommandAnswer). Writes {E = SinkFailed} g.S.Sink.stands g.S.Sink.faults c.offer_and_run.new.out c.put_end.new.out (results_text (setting_of c.set_out.new.parts) (state_of c.args.parts.now) (plan_of c.plan.new.plan) (outcome_of c.in-Ok-offer_and_run.outcome) ++ answer_line c.args.names.now a) (Ok tt)) same
+    (c.in-Ok-put_end.ensures (setting_of c.set_out.new.parts) (state_of c.args.parts.now) known.sets.from.put.puts c.set_out.new.tables.offers.items
     (sym (c.topology-2.ensures.machine ∙ ap (λ (s : Setting). s.machine) c.finish_load.ensures.setting)) made) in
     let one = LoadCommand c.args.force c.args.names.now c.args.beats.now in
     let outside : Outside _ =
@@ -244,12 +244,12 @@ returns-in-Ok-put_end-clause-does g c =
     let found : Situation _ =
     record { state = state_of c.args.parts.now; files = g.F.Pieces.faults c.args.files.now; runs = g.R.Rendezvous.runs c.args.how.now; sink = c.args.out.now } in
     let came =
-    loading.finished held (setting_of c.set_out.new.parts) c.args.force c.args.names.now before now c.in-Ok.ready c.plan-plan.result known
+    loading.finished held (setting_of c.set_out.new.parts) c.args.force c.args.names.now before now (ready_of c.in-Ok.catalog c.set_out.new.tables) c.plan.new.plan known
     (record { stands = g.S.Sink.stands; faults = g.S.Sink.faults; lists = g.R.Rendezvous.lists }) c.args.beats.now
     (record { runs = g.R.Rendezvous.runs c.args.how.now; sink = c.args.out.now }) (g.R.Rendezvous.runs c.offer_and_run.new.how) c.offer_and_run.new.out c.each_event_keeps_the_rule.ensures.event c.each_event_keeps_the_rule.ensures.opening c.in-Ok-offer_and_run.outcome
     (λ s state p is_machine is_plan. c.in-Ok-offer_and_run.ensures.meets s state p (is_machine ∙ sym c.topology.ensures.machine) is_plan) {E = SinkFailed}
     c.verdict.ensures.verdict c.put_end.new.out (Ok tt) (state_of c.finish_load.new.self) c.verdict.ensures.holds
-    (kept c.in-Ok.ready.catalog.entries c.in-Ok.ready.offers.items (state_of c.args.parts.now) (outcome_of c.in-Ok-offer_and_run.outcome) known.sets.from.put made (sym c.as_slice-3.ensures.value))
+    (kept c.in-Ok.catalog.entries c.set_out.new.tables.offers.items (state_of c.args.parts.now) (outcome_of c.in-Ok-offer_and_run.outcome) known.sets.from.put made (sym c.as_slice-3.ensures.value))
     wrote in
     subst (λ (s : Setting). Does outside s one found (record { state = state_of c.finish_load.new.self; files = g.F.Pieces.faults c.set_out.new.files; runs = g.R.Rendezvous.runs c.offer_and_run.new.how; sink = c.put_end.new.out }) (Answered c.command_answer-answer.result))
     c.in-Ok.ensures.setting (subst (λ (a : CommandAnswer). Does outside (setting_of c.set_out.new.parts) one found (record { state = state_of c.finish_load.new.self; files = g.F.Pieces.faults c.set_out.new.files; runs = g.R.Rendezvous.runs c.offer_and_run.new.how; sink = c.put_end.new.out }) (Answered a)) (sym same) came)
@@ -260,18 +260,18 @@ returns-clause-does g c =
     let before : Stage = record { state = state_of c.args.parts.now; files = g.F.Pieces.faults c.args.files.now } in
     let now : Stage = record { state = state_of c.set_out.new.parts; files = g.F.Pieces.faults c.set_out.new.files } in
     let known =
-    loading.facts held (setting_of c.set_out.new.parts) (setting_of c.args.parts.now) c.args.force c.args.names.now before now c.in-Ok.ready c.plan-plan.result
-    c.as_slice.result.now c.in-Ok.ensures.setting c.as_slice.ensures.value c.in-Ok.ensures.answer c.requires.standing c.plan-plan.ensures.plan c.plan-plan.ensures.sound
+    loading.facts held (setting_of c.set_out.new.parts) (setting_of c.args.parts.now) c.args.force c.args.names.now before now (ready_of c.in-Ok.catalog c.set_out.new.tables) c.plan.new.plan
+    c.as_slice.result.now c.in-Ok.ensures.setting c.as_slice.ensures.value c.in-Ok.ensures.answer c.requires.standing c.plan.ensures.plan c.plan.ensures.sound
     c.tables_end.ensures in
     let same = c.command_answer-answer.ensures ∙ c.verdict.ensures.is_answer in
-    let made = known.plan_is c.in-Ok.ready.catalog.entries c.in-Ok.ready.offers.items (state_of c.args.parts.now) known.sets.from.put in
+    let made = known.plan_is c.in-Ok.catalog.entries c.set_out.new.tables.offers.items (state_of c.args.parts.now) known.sets.from.put in
     let kept =
     subst
-    (λ (all : List (Option PatchId)). (entries : List Entry) (offers : List (Option ℕ)) (before : State) (outcome : Outcome) (put : IsPut (setting_of c.set_out.new.parts) entries offers before (state_of c.set_out.new.parts) all) → plan_of c.plan-plan.result ≡ load_plan (setting_of c.set_out.new.parts) before put.puts offers → outcome.revs ≡ c.as_slice-3.result.now → state_of c.finish_load.new.self ≡ loaded (setting_of c.set_out.new.parts) before put.puts offers (plan_of c.plan-plan.result) outcome)
+    (λ (all : List (Option PatchId)). (entries : List Entry) (offers : List (Option ℕ)) (before : State) (outcome : Outcome) (put : IsPut (setting_of c.set_out.new.parts) entries offers before (state_of c.set_out.new.parts) all) → plan_of c.plan.new.plan ≡ load_plan (setting_of c.set_out.new.parts) before put.puts offers → outcome.revs ≡ c.as_slice-3.result.now → state_of c.finish_load.new.self ≡ loaded (setting_of c.set_out.new.parts) before put.puts offers (plan_of c.plan.new.plan) outcome)
     c.as_slice-2.ensures.value c.finish_load.ensures.kept in
     let wrote =
-    subst (λ (a : CommandAnswer). Writes {E = SinkFailed} g.S.Sink.stands g.S.Sink.faults c.offer_and_run.new.out c.put_end.new.out (results_text (setting_of c.set_out.new.parts) (state_of c.args.parts.now) (plan_of c.plan-plan.result) (outcome_of c.in-Ok-offer_and_run.outcome) ++ answer_line c.args.names.now a) (Err c.in-Err-put_end.field-0)) same
-    (c.in-Err-put_end.ensures (setting_of c.set_out.new.parts) (state_of c.args.parts.now) known.sets.from.put.puts c.in-Ok.ready.offers.items
+    subst (λ (a : CommandAnswer). Writes {E = SinkFailed} g.S.Sink.stands g.S.Sink.faults c.offer_and_run.new.out c.put_end.new.out (results_text (setting_of c.set_out.new.parts) (state_of c.args.parts.now) (plan_of c.plan.new.plan) (outcome_of c.in-Ok-offer_and_run.outcome) ++ answer_line c.args.names.now a) (Err c.in-Err-put_end.field-0)) same
+    (c.in-Err-put_end.ensures (setting_of c.set_out.new.parts) (state_of c.args.parts.now) known.sets.from.put.puts c.set_out.new.tables.offers.items
     (sym (c.topology-2.ensures.machine ∙ ap (λ (s : Setting). s.machine) c.finish_load.ensures.setting)) made) in
     let one = LoadCommand c.args.force c.args.names.now c.args.beats.now in
     let outside : Outside _ =
@@ -279,12 +279,12 @@ returns-clause-does g c =
     let found : Situation _ =
     record { state = state_of c.args.parts.now; files = g.F.Pieces.faults c.args.files.now; runs = g.R.Rendezvous.runs c.args.how.now; sink = c.args.out.now } in
     let came =
-    loading.finished held (setting_of c.set_out.new.parts) c.args.force c.args.names.now before now c.in-Ok.ready c.plan-plan.result known
+    loading.finished held (setting_of c.set_out.new.parts) c.args.force c.args.names.now before now (ready_of c.in-Ok.catalog c.set_out.new.tables) c.plan.new.plan known
     (record { stands = g.S.Sink.stands; faults = g.S.Sink.faults; lists = g.R.Rendezvous.lists }) c.args.beats.now
     (record { runs = g.R.Rendezvous.runs c.args.how.now; sink = c.args.out.now }) (g.R.Rendezvous.runs c.offer_and_run.new.how) c.offer_and_run.new.out c.each_event_keeps_the_rule.ensures.event c.each_event_keeps_the_rule.ensures.opening c.in-Ok-offer_and_run.outcome
     (λ s state p is_machine is_plan. c.in-Ok-offer_and_run.ensures.meets s state p (is_machine ∙ sym c.topology.ensures.machine) is_plan) {E = SinkFailed}
     c.verdict.ensures.verdict c.put_end.new.out (Err c.in-Err-put_end.field-0) (state_of c.finish_load.new.self) c.verdict.ensures.holds
-    (kept c.in-Ok.ready.catalog.entries c.in-Ok.ready.offers.items (state_of c.args.parts.now) (outcome_of c.in-Ok-offer_and_run.outcome) known.sets.from.put made (sym c.as_slice-3.ensures.value))
+    (kept c.in-Ok.catalog.entries c.set_out.new.tables.offers.items (state_of c.args.parts.now) (outcome_of c.in-Ok-offer_and_run.outcome) known.sets.from.put made (sym c.as_slice-3.ensures.value))
     wrote in
     subst (λ (s : Setting). Does outside s one found (record { state = state_of c.finish_load.new.self; files = g.F.Pieces.faults c.set_out.new.files; runs = g.R.Rendezvous.runs c.offer_and_run.new.how; sink = c.put_end.new.out }) WriteFault)
     c.in-Ok.ensures.setting came

@@ -81,30 +81,30 @@ returns-in_default g c =
     (record { stands = g.S.Sink.stands; faults = g.S.Sink.faults; lists = g.R.Rendezvous.lists; held = HeldWhere (g.F.Pieces.tells c.args.files.now) (g.F.Files.holds c.args.files.now) })
     (setting_of c.args.parts.now) c.args.command.now
     (record { state = state_of c.args.parts.now; files = g.F.Pieces.faults c.args.files.now; runs = g.R.Rendezvous.runs c.args.how.now; sink = c.put_heading.new.out })
-    (record { state = state_of c.act.new.parts; files = g.F.Pieces.faults c.args.files.now; runs = g.R.Rendezvous.runs c.args.how.now; sink = c.tell.new.out })
-    c.act.result c.names_in.result.now c.tell.result
+    (record { state = state_of c.play_plain.new.parts; files = g.F.Pieces.faults c.args.files.now; runs = g.R.Rendezvous.runs c.args.how.now; sink = c.play_plain.new.out })
+    c.play_plain.ensures.acted.0 _ c.play_plain.result
     (record {
       reads = [];
       is_held = λ told. All-nil (λ (read : Read). read.bytes ≡ g.F.Files.holds c.args.files.now read.name);
-      step = c.act.ensures.step;
-      cause = subst (λ (unread : Bool). FileCause unread (g.F.Pieces.faults c.args.files.now) (g.F.Pieces.faults c.args.files.now)) (sym c.act.ensures.read) refl;
+      step = c.play_plain.ensures.acted.2;
+      cause = subst (λ (unread : Bool). FileCause unread (g.F.Pieces.faults c.args.files.now) (g.F.Pieces.faults c.args.files.now)) (sym c.play_plain.ensures.acted.1) refl;
     })
-    (sym c.names_in.ensures) refl c.tell.ensures in
+    refl refl c.play_plain.ensures.acted.3 in
     record {
       played =
           does_play
           (record { stands = g.S.Sink.stands; faults = g.S.Sink.faults; lists = g.R.Rendezvous.lists; held = HeldWhere (g.F.Pieces.tells c.args.files.now) (g.F.Files.holds c.args.files.now) })
           (setting_of c.args.parts.now) c.args.command.now
           (record { state = state_of c.args.parts.now; files = g.F.Pieces.faults c.args.files.now; runs = g.R.Rendezvous.runs c.args.how.now; sink = c.args.out.now })
-          (record { state = state_of c.act.new.parts; files = g.F.Pieces.faults c.args.files.now; runs = g.R.Rendezvous.runs c.args.how.now; sink = c.tell.new.out })
-          {E = SinkFailed} c.args.number c.put_heading.new.out c.tell.result c.in-Ok.ensures does;
-      setting = c.act.ensures.setting;
+          (record { state = state_of c.play_plain.new.parts; files = g.F.Pieces.faults c.args.files.now; runs = g.R.Rendezvous.runs c.args.how.now; sink = c.play_plain.new.out })
+          {E = SinkFailed} c.args.number c.put_heading.new.out c.play_plain.result c.in-Ok.ensures does;
+      setting = c.play_plain.ensures.setting;
       same = refl;
       still = λ told. told;
       later = omega arith;
       sink_later = omega (arith, c.in-Ok.ensures.later, does.rest.later);
       sink_cause =
-          subst (λ (before : ℕ). SinkCause c.tell.result before (g.S.Sink.faults c.tell.new.out)) c.in-Ok.ensures.still
+          subst (λ (before : ℕ). SinkCause c.play_plain.result before (g.S.Sink.faults c.play_plain.new.out)) c.in-Ok.ensures.still
           does.rest.cause;
       most_stays = refl;
     }

@@ -6,25 +6,25 @@ use Rattle.session_parts.specs.Loads.{IsPut}
 use Rattle.uc_session.proofs.Offered.{something, nothing}
 use Rattle.uc_session.proofs.setting_out.set_out_from.Goals as goal
 
-pub returns-clause-answer : goal.returns-clause-answer
-returns-clause-answer c = record {
+pub returns-in-Ok-clause-answer : goal.returns-in-Ok-clause-answer
+returns-in-Ok-clause-answer c = record {
   catalog = refl;
-  are_offers = c.load_offers-offers.ensures.offers;
-  something = something c.load_offers-offers.result.items
+  are_offers = c.load_offers.ensures.offers;
+  something = something c.load_offers.new.offers.items
       (ap (list_any is_some) (sym c.as_slice.ensures.value) ∙ sym c.something_offered.ensures ∙ c.if-not-something_offered.false);
-  within = c.load_offers-offers.ensures.within;
-  put = subst (λ (offers : List (Option ℕ)). IsPut (setting_of c.args.parts.now) c.args.catalog.entries offers (state_of c.args.parts.now) (state_of c.put_load.new.self) c.in-Ok.places.items)
+  within = c.load_offers.ensures.within;
+  put = subst (λ (offers : List (Option ℕ)). IsPut (setting_of c.args.parts.now) c.args.catalog.now.entries offers (state_of c.args.parts.now) (state_of c.put_load.new.self) c.put_load.new.places.items)
       c.as_slice-2.ensures.value c.in-Ok.ensures.put;
 }
 
 pub returns-in-Err-clause-answer : goal.returns-in-Err-clause-answer
 returns-in-Err-clause-answer c = (
   record {
-    offers = c.load_offers-offers.result.items;
-    are_offers = c.load_offers-offers.ensures.offers;
-    something = something c.load_offers-offers.result.items
+    offers = c.load_offers.new.offers.items;
+    are_offers = c.load_offers.ensures.offers;
+    something = something c.load_offers.new.offers.items
         (ap (list_any is_some) (sym c.as_slice.ensures.value) ∙ sym c.something_offered.ensures ∙ c.if-not-something_offered.false);
-    full = subst (λ (offers : List (Option ℕ)). puts_of (setting_of c.args.parts.now) (state_of c.args.parts.now) c.args.catalog.entries offers ≡ Err c.in-Err.full.needed)
+    full = subst (λ (offers : List (Option ℕ)). puts_of (setting_of c.args.parts.now) (state_of c.args.parts.now) c.args.catalog.now.entries offers ≡ Err c.in-Err.full.needed)
         c.as_slice-2.ensures.value c.in-Err.ensures.full.0;
   },
   c.in-Err.ensures.full.1,
@@ -33,9 +33,9 @@ returns-in-Err-clause-answer c = (
 pub returns-then-not-something_offered-clause-answer : goal.returns-then-not-something_offered-clause-answer
 returns-then-not-something_offered-clause-answer c = (
   record {
-    offers = c.load_offers-offers.result.items;
-    are_offers = c.load_offers-offers.ensures.offers;
-    nothing = nothing c.load_offers-offers.result.items
+    offers = c.load_offers.new.offers.items;
+    are_offers = c.load_offers.ensures.offers;
+    nothing = nothing c.load_offers.new.offers.items
         (ap (list_any is_some) (sym c.as_slice.ensures.value) ∙ sym c.something_offered.ensures ∙ c.if-not-something_offered.true);
   },
   refl,

@@ -18,15 +18,15 @@ returns c =
     let force = c.args.force in
     let core : ℕ → Option CoreFacts = λ g. core_where (takes_part setting state g) (facts_now setting state g) in
     let count : ℕ = group_count setting.machine.stated.cores in
-    let are = subst (λ (cores : List (Option CoreFacts)). AreOffers entries cores force c.offers.result.items)
-    (c.as_slice.ensures.value ∙ c.present_cores-cores.ensures) c.offers.ensures in
-    let within = offers_within entries core count force c.offers.result.items are in
+    let are = subst (λ (cores : List (Option CoreFacts)). AreOffers entries cores force c.fill_offers.new.offers.items)
+    (c.as_slice.ensures.value ∙ c.present_cores.ensures) c.fill_offers.ensures in
+    let within = offers_within entries core count force c.fill_offers.new.offers.items are in
     record {
       offers = record {
-        count = offers_count entries core count force c.offers.result.items are;
+        count = offers_count entries core count force c.fill_offers.new.offers.items are;
         each = λ g below. is_offer_where (takes_part setting state g) entries (facts_now setting state g) force _
-            (offers_each entries core count force c.offers.result.items are g None below);
+            (offers_each entries core count force c.fill_offers.new.offers.items are g None below);
       };
-      known = are_entries c.args.catalog.now c.offers.result.items within;
+      known = are_entries c.args.catalog.now c.fill_offers.new.offers.items within;
       within = within;
     }

@@ -12,16 +12,16 @@ pub returns-clause-tables : goal.returns-clause-tables
 returns-clause-tables c =
     let setting = setting_of c.args.self.now in
     let state = state_of c.args.self.now in
-    let offers = map_length (revision_put state.patches c.args.places.now) _ c.offered_revisions.result.items
+    let offers = map_length (revision_put state.patches c.args.places.now) _ c.offered_revisions.new.revisions.items
     c.offered_revisions.ensures in
     tables_fit setting state _ (record {
-      threads_are = c.threads.ensures.value;
+      threads_are = c.threads-plan.ensures.value;
       by_thread =
-          c.by_thread-kind.ensures;
-      by_group = c.by_group-primary.ensures;
+          c.by_thread.ensures;
+      by_group = c.by_group.ensures;
       patience_is = refl;
     })
-    c.threads.ensures.partition (offers ∙ c.requires.groups)
+    c.threads-plan.ensures.partition (offers ∙ c.requires.groups)
 
 pub returns-clause-plan : goal.returns-clause-plan
 returns-clause-plan c = λ entries offers before put.
@@ -29,14 +29,14 @@ returns-clause-plan c = λ entries offers before put.
     let state = state_of c.args.self.now in
     let places = c.args.places.now in
     plan_is setting state _ (record {
-      threads_are = c.threads.ensures.value;
+      threads_are = c.threads-plan.ensures.value;
       by_thread =
-          c.by_thread-kind.ensures;
-      by_group = c.by_group-primary.ensures;
+          c.by_thread.ensures;
+      by_group = c.by_group.ensures;
       patience_is = refl;
     }) put.puts offers
     (offered_is put.puts offers state.patches places
-    (machine_of setting).groups c.offered_revisions.result.items c.offered_revisions.ensures c.requires.groups
+    (machine_of setting).groups c.offered_revisions.new.revisions.items c.offered_revisions.ensures c.requires.groups
     (ap (λ (s : State). s.patches) put.after) put.places_are)
     ∙ plan_before setting entries offers before state places put
 
@@ -46,6 +46,6 @@ returns-clause-sound c = λ force names reads entries offers before put stands p
     record {
       tables = returns-clause-tables c;
       sound = subst Sound (sym (returns-clause-plan c entries offers before put))
-          (plans_sound setting before force names reads entries offers put.puts c.threads.ensures.partition stands
+          (plans_sound setting before force names reads entries offers put.puts c.threads-plan.ensures.partition stands
           (record { present = present; read = read; are_offers = are; something = some; put = put.put })).0;
     }
