@@ -16,49 +16,70 @@ fn bounded(alloc: Global, length: u32, device: u32) -> Result<Vec<u8>, AllocErro
     Ok(bytes)
 }
 
+/// One update more than a file may hold.
+fn too_many(alloc: Global) -> Result<Vec<u8>, AllocError> {
+    let mut bytes = Vec::new(alloc);
+    for _ in 0..65_537 {
+        push_update(&mut bytes, &SMALL)?;
+    }
+    Ok(bytes)
+}
+
+/// Two containers, of which the first section has an unknown type.
+fn unknown_section(alloc: Global) -> Result<Vec<u8>, AllocError> {
+    let mut bytes = two_containers(alloc)?;
+    if let Some(kind) = bytes.as_mut_slice().get_mut(44) {
+        *kind = 2;
+    }
+    Ok(bytes)
+}
+
+/// The first faults of the files of `refused`.
+const FAULTS: [&str; 15] = [
+    "0 short",
+    "0 truncated",
+    "0 version",
+    "0 sum",
+    "2048 short",
+    "64 sum",
+    "0 entry-sum 1",
+    "0 ext-sum",
+    "0 ext-cut",
+    "0 ext-count",
+    "4194304 too-many",
+    "0 equiv-type",
+    "44 section-type",
+    "28 family-size",
+    "28 chipset",
+];
+
+/// A file that is refused, by the place of its fault in `FAULTS`.
+fn refused(alloc: Global, place: usize) -> Result<Vec<u8>, AllocError> {
+    match place {
+        0 => update(alloc, 0, 1, 47),
+        1 => update(alloc, 0, 1, 48),
+        2 => update(alloc, 0, 2, 2_048),
+        3 => update(alloc, 4, 0xf8e5_d7fe, 2_048),
+        4 => update(alloc, 0, 1, 2_052),
+        5 => two(alloc, 1),
+        6 => with_table(alloc, 108, 0x0e22_431f, 0xf8e5_d762, 108),
+        7 => with_table(alloc, 108, 0x0e22_4321, 0xf8e5_d761, 108),
+        8 => with_table(alloc, 80, 0x0e22_4320, 0xf8e5_d761, 80),
+        9 => with_table(alloc, 96, 0x0e22_4320, 0xf8e5_d761, 96),
+        10 => too_many(alloc),
+        11 => update(alloc, 0, 0x0041_4d44, 2_048),
+        12 => unknown_section(alloc),
+        13 => bounded(alloc, 1_825, 0),
+        _ => bounded(alloc, 1_824, 1),
+    }
+}
+
 #[test]
 fn names_the_first_fault_of_a_file_and_lists_nothing(rt: HostRuntime) -> Result<(), Fail> {
     let alloc = rt.alloc();
-    let mut many = Vec::new(alloc);
-    for _ in 0..65_537 {
-        push_update(&mut many, &SMALL)?;
-    }
-    let mut unknown = two_containers(alloc)?;
-    if let Some(kind) = unknown.as_mut_slice().get_mut(44) {
-        *kind = 2;
-    }
-    let table = [
-        (update(alloc, 0, 1, 47)?, "0 short"),
-        (update(alloc, 0, 1, 48)?, "0 truncated"),
-        (update(alloc, 0, 2, 2_048)?, "0 version"),
-        (update(alloc, 4, 0xf8e5_d7fe, 2_048)?, "0 sum"),
-        (update(alloc, 0, 1, 2_052)?, "2048 short"),
-        (two(alloc, 1)?, "64 sum"),
-        (
-            with_table(alloc, 108, 0x0e22_431f, 0xf8e5_d762, 108)?,
-            "0 entry-sum 1",
-        ),
-        (
-            with_table(alloc, 108, 0x0e22_4321, 0xf8e5_d761, 108)?,
-            "0 ext-sum",
-        ),
-        (
-            with_table(alloc, 80, 0x0e22_4320, 0xf8e5_d761, 80)?,
-            "0 ext-cut",
-        ),
-        (
-            with_table(alloc, 96, 0x0e22_4320, 0xf8e5_d761, 96)?,
-            "0 ext-count",
-        ),
-        (many, "4194304 too-many"),
-        (update(alloc, 0, 0x0041_4d44, 2_048)?, "0 equiv-type"),
-        (unknown, "44 section-type"),
-        (bounded(alloc, 1_825, 0)?, "28 family-size"),
-        (bounded(alloc, 1_824, 1)?, "28 chipset"),
-    ];
-    for (bytes, fault) in &table {
+    for (place, fault) in FAULTS.iter().enumerate() {
         let mut files = MemFiles::new(alloc);
-        files.put("f.bin", bytes.as_slice())?;
+        files.put("f.bin", refused(alloc, place)?.as_slice())?;
         let mut out = MemSink::new(alloc, ROOM)?;
         let status = run(alloc, "list f.bin", &mut files, &mut out)?;
         assert_eq!(rt; status, Status::BadInput, "{fault}");
@@ -93,26 +114,30 @@ fn takes_a_container_up_to_its_bounds(rt: HostRuntime) -> Result<(), Fail> {
     let alloc = rt.alloc();
     let mut none = Vec::new(alloc);
     push_head(&mut none, 16, 0x0050_0f10, 0x5000)?;
-    let table = [
-        (none, "file 0 y.bin amd 0\n"),
-        (
-            bounded(alloc, 1_824, 0)?,
-            "file 0 y.bin amd 1\n0 at 36 len 1824 rev 0x05000001 id 0x00005000 family 0x00000014\n  sig 0x00500f10\n",
-        ),
-    ];
-    for (bytes, text) in &table {
-        assert!(rt;
-            answers(
-                alloc,
-                "y.bin",
-                bytes.as_slice(),
-                "list y.bin",
-                Status::Done,
-                text
-            )?,
-            "{text}"
-        );
-    }
+    let text = "file 0 y.bin amd 0\n";
+    assert!(rt;
+        answers(
+            alloc,
+            "y.bin",
+            none.as_slice(),
+            "list y.bin",
+            Status::Done,
+            text
+        )?
+    );
+    let full = bounded(alloc, 1_824, 0)?;
+    let text =
+        "file 0 y.bin amd 1\n0 at 36 len 1824 rev 0x05000001 id 0x00005000 family 0x00000014\n  sig 0x00500f10\n";
+    assert!(rt;
+        answers(
+            alloc,
+            "y.bin",
+            full.as_slice(),
+            "list y.bin",
+            Status::Done,
+            text
+        )?
+    );
     Ok(())
 }
 

@@ -9,34 +9,21 @@ fn one_load(alloc: Global, schedule: &str, end: &str) -> Result<String, AllocErr
 fn names_the_first_fault_of_a_script_and_plays_nothing(rt: HostRuntime) -> Result<(), Fail> {
     let alloc = rt.alloc();
     let table = [
-        (one_load(alloc, "*28", "")?, "error script line 3 no-end\n"),
-        (
-            one_load(alloc, "s1", "end\n")?,
-            "error script line 4 range\n",
-        ),
-        (
-            one_load(alloc, "suspend", "end\n")?,
-            "error script line 4 number\n",
-        ),
-        (
-            one_load(alloc, "boot", "end\n")?,
-            "error script line 4 word\n",
-        ),
-        (String::new(alloc), "error script line 0 head\n"),
+        ("*28", "", "error script line 3 no-end\n"),
+        ("s1", "end\n", "error script line 4 range\n"),
+        ("suspend", "end\n", "error script line 4 number\n"),
+        ("boot", "end\n", "error script line 4 word\n"),
     ];
-    for (script, text) in &table {
+    for (schedule, end, text) in &table {
+        let script = one_load(alloc, schedule, end)?;
+        let bytes = script.as_str().as_bytes();
         assert!(rt;
-            answers(
-                alloc,
-                "s",
-                script.as_str().as_bytes(),
-                "play t1 s",
-                Status::BadInput,
-                text
-            )?,
+            answers(alloc, "s", bytes, "play t1 s", Status::BadInput, text)?,
             "{text}"
         );
     }
+    let text = "error script line 0 head\n";
+    assert!(rt; answers(alloc, "s", b"", "play t1 s", Status::BadInput, text)?);
     Ok(())
 }
 
