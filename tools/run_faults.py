@@ -25,6 +25,8 @@ UPDATES = [
     ({8: 0}, 108, "0 total-small"), ({7: 4, 8: 44}, 108, "0 total-small"), ({7: 4, 8: 48}, 108, "0 data-past-total"),
     ({0: 2, 7: 64}, 108, "0 data-past-total"), ({4: 0xF8E5D757, 7: 60}, 108, None),
     ({0: 0}, 108, "0 version"), ({0: 2}, 48, "0 version"), ({5: 0}, 108, "0 version"), ({5: 2}, 107, "0 version"),
+    ({0: 0x10001}, 108, "0 version"), ({5: 0x101}, 108, "0 version"), ({16: 3}, 107, "0 truncated"),
+    ({16: 0x80000002}, 108, "0 ext-count"),
     ({4: 0xF8E5D7FF, 7: 0, 8: 0}, 2048, None), ({4: 0xF8E5D793, 7: 0}, 2048, None), ({7: 0}, 2047, "0 truncated"),
     ({8: 80}, 79, "0 truncated"), ({8: 68}, 68, "0 ext-cut"), ({8: 80}, 80, "0 ext-cut"),
     ({4: 0xF8E5D79B, 8: 84, 16: 0, 17: 0}, 84, None), ({8: 84, 16: 1}, 84, "0 ext-count"),
@@ -45,6 +47,7 @@ CONTAINERS = [
     ({2: 17}, 28, "0 table-cut"), ({2: 104}, 116, None), ({2: 105}, 116, "0 table-cut"),
     ({2: 0xFFFFFFFF}, 116, "0 table-cut"), ({}, 44, None), ({11: 2}, 51, "44 section-short"),
     ({11: 2, 12: 63}, 52, "44 section-type"), ({11: 0}, 116, "44 section-type"),
+    ({11: 0x10001}, 116, "44 section-type"),
     ({12: 63}, 52, "44 patch-small"), ({12: 0}, 116, "44 patch-small"), ({17: 1}, 115, "44 patch-cut"),
     ({}, 116, None), ({12: 65}, 116, "44 patch-cut"), ({12: 65}, 117, None), ({12: 0xFFFFFFFF}, 116, "44 patch-cut"),
     ({12: 2048, 19: 0x1022}, 2100, None), ({12: 2049, 19: 0x1022, 17: 1}, 2101, "44 family-size"),
@@ -53,6 +56,8 @@ CONTAINERS = [
     ({12: 1824, 19: 0x5022}, 1876, None), ({12: 1825, 19: 0x5022}, 1877, "44 family-size"),
     ({12: 1825, 19: 0x5022}, 1876, "44 patch-cut"),
     ({12: 2049, 19: 0x0F48}, 2101, None), ({12: 2049, 19: 0x4022}, 2101, None), ({12: 2049, 19: 0x6022}, 2101, None),
+    ({12: 9000, 19: 0x0F48}, 9052, None), ({12: 9000, 19: 0x6022}, 9052, None), ({12: 9000, 19: 0x7022}, 9052, None),
+    ({12: 9000, 19: 0x8022}, 9052, None), ({12: 9000, 19: 0xA022}, 9052, None),
     ({17: 1}, 116, "44 chipset"), ({18: 1}, 116, "44 chipset"), ({17: 0x80000000}, 116, "44 chipset"),
     ({16: 1, 20: 1}, 116, None), ({}, 117, "116 section-short"), ({}, 124, "116 section-type"),
     ({11: MAGIC}, 47, "44 section-short"), ({11: MAGIC}, 48, "44 equiv-short"),
@@ -72,6 +77,8 @@ TOPOLOGIES = [
     (HEAD + CORE + "cpu 1 core 9\n", "4 order"), (HEAD + CORE + "cpu 0 core 1\n", "4 no-core"),
     (HEAD + "core 65535 sig 1 flags 0 rev 0\n", "3 order"), (HEAD + "core 65536 sig 1 flags 0 rev 0\n", "3 number"),
     (HEAD + CORE, "0 empty-core"), (HEAD, "0 empty-core"),
+    (HEAD + CORE + "core 1 sig 1 flags 2 rev 3\n" + CPU, "0 empty-core"),
+    (HEAD + " # no comment\n" + CORE + CPU, "3 word"),
     (HEAD + "\n# a comment\n" + CORE + "\t cpu  0 core 0\r\n", None),
     (PACKAGES + "core 1 package 2 sig 9 flags 9 rev 9\n", "4 order"),
     (PACKAGES + "core 1 package 0 sig 9 flags 2 rev 3\n", "4 disagree"),
@@ -96,6 +103,9 @@ SCRIPTS = [
     (SCRIPT + "boot" + 17 * " x" + "\n", "2 word"), (SCRIPT + "load\n", "2 word"),
     (SCRIPT + "load a\n" + 64 * "*65535\n" + "*64\nend\n", None),
     (SCRIPT + "load a\n" + 64 * "*65535\n" + "*64 s0\nend\n", "67 too-many"),
+    (SCRIPT + "load a\n" + 64 * "*65535\n" + "*64\ns0\nend\n", "68 too-many"),
+    (SCRIPT + "load a\n" + 64 * "*65535\n" + "*56 *8 s0\nend\n", "67 too-many"),
+    (SCRIPT + " # no comment\n", "2 word"), (SCRIPT + "boot" + 16 * " e" + "\n", None),
     (SCRIPT + 4096 * "accept 0\n", None), (SCRIPT + 4097 * "accept 0\n", "4098 too-many"),
     (SCRIPT + 4096 * "accept 0\n" + "accept 1\n", "4098 range"),
     (SCRIPT + 4096 * "accept 0\n" + "load a\n", "4098 too-many"),
@@ -142,6 +152,10 @@ def text_cases():
     for number, rev, fault in ((999, 0, "259 too-many"), (256, 4294967296, "259 number")):
         topology = f"{front}core {number} sig 0 flags 0 rev {rev}\n".encode()
         yield ["select", "t", "e"], {**files, "t": topology}, 2, text_of("topology line", fault)
+    front = HEAD + CORE + "".join(f"cpu {n} core 0\n" for n in range(256))
+    for line, fault in (("999 core 0", "too-many"), ("256 core 9", "too-many"), ("256 core 65536", "number")):
+        topology = f"{front}cpu {line}\n".encode()
+        yield ["select", "t", "e"], {**files, "t": topology}, 2, text_of("topology line", f"260 {fault}")
     for text, fault in SCRIPTS:
         yield ["play", "t", "s"], {**files, "s": text.encode()}, 2 if fault else None, text_of("script line", fault)
 

@@ -178,6 +178,70 @@ fn a_script_has_at_most_4096_commands(rt: HostRuntime) -> Result<(), Fail> {
     Ok(())
 }
 
+#[test]
+fn short_words_are_read_as_long_ones(rt: HostRuntime) -> Result<(), Fail> {
+    let script = script_of(
+        rt.alloc(),
+        b"ucode-script 1\nload a\ns0 t1 n0 r1 *2 *109 s1\nend",
+    )?;
+    let Some(Command::Load { beats, .. }) = script.commands().get(0) else {
+        return Err(Fail::from("no load"));
+    };
+    let schedule = [
+        Beat::Step(0),
+        Beat::Timeout(1),
+        Beat::Nmi(0),
+        Beat::Run(1),
+        Beat::Rounds(2),
+        Beat::Rounds(109),
+        Beat::Step(1),
+    ];
+    assert_eq!(rt; beats.as_slice(), schedule.as_slice());
+    Ok(())
+}
+
+#[test]
+fn bounds_of_names_and_cores_and_no_comment_behind_a_space(rt: HostRuntime) -> Result<(), Fail> {
+    let lines: [(&[u8], Option<(u32, ScriptCause)>); 4] = [
+        (b"accept 1", Some((2, ScriptCause::Range))),
+        (b" # comment", Some((2, ScriptCause::Word))),
+        (b"boot 1 2 3 4 5 6 7 8 9 10 11 12 13 14 15 16", None),
+        (b"load 1 2 3 4 5 6 7 8 9 10 11 12 13 14 15 16\nend", None),
+    ];
+    for (rest, fault) in lines {
+        let mut text = Vec::from_slice(rt.alloc(), b"ucode-script 1\n")?;
+        text.extend_from_slice(rest)?;
+        let fault = fault.map(|(line, cause)| ScriptFault { line, cause });
+        assert_eq!(rt; fault_of(rt.alloc(), &text), fault, "at {rest:?}");
+    }
+    Ok(())
+}
+
+#[test]
+fn events_of_runs_and_of_lines_count(rt: HostRuntime) -> Result<(), Fail> {
+    let cases: [(&[u8], Option<u32>); 4] = [
+        (b"*32\nend", None),
+        (b"*32\ns0\nend", Some(36)),
+        (b"*24 *8 s0\nend", Some(35)),
+        (b"*24 *8\nend", None),
+    ];
+    for (rest, line) in cases {
+        let text = repeated(
+            rt.alloc(),
+            b"ucode-script 1\nload a\n",
+            b"*65535\n",
+            32,
+            rest,
+        )?;
+        let fault = line.map(|line| ScriptFault {
+            line,
+            cause: ScriptCause::TooMany,
+        });
+        assert_eq!(rt; fault_of(rt.alloc(), &text), fault, "{rest:?}");
+    }
+    Ok(())
+}
+
 fn script_of(alloc: Global, text: &[u8]) -> Result<Script, Fail> {
     if text.len() > 16_777_216 {
         return Err(Fail::from("too long"));

@@ -177,3 +177,115 @@ fn answers_each_front_of_two_containers(rt: HostRuntime) -> Result<(), Fail> {
     }
     Ok(())
 }
+
+#[test]
+fn lists_ids_at_both_ends(rt: HostRuntime) -> Result<(), Fail> {
+    let alloc = rt.alloc();
+    let table = [
+        (
+            0x00f0_0f22,
+            0xf022,
+            "file 0 y.bin amd 1\n0 at 36 len 64 rev 0x0a20102b id 0x0000f022 family 0x0000001e\n  sig 0x00f00f22\n",
+        ),
+        (
+            0x0000_0f48,
+            0,
+            "file 0 y.bin amd 1\n0 at 36 len 64 rev 0x0a20102b id 0x00000000 family 0x0000000f\n",
+        ),
+    ];
+    for (sig, id, text) in &table {
+        let mut bytes = Vec::new(alloc);
+        push_head(&mut bytes, 16, *sig, *id)?;
+        push_section(&mut bytes, &Section { id: *id, ..SECTION })?;
+        assert!(rt;
+            answers(
+                alloc,
+                "y.bin",
+                bytes.as_slice(),
+                "list y.bin",
+                Status::Done,
+                text
+            )?,
+            "{text}"
+        );
+    }
+    Ok(())
+}
+
+#[test]
+fn other_families_have_no_bound(rt: HostRuntime) -> Result<(), Fail> {
+    let alloc = rt.alloc();
+    let table = [
+        (
+            0x0060_0f22,
+            0x6022,
+            "file 0 y.bin amd 1\n0 at 36 len 9000 rev 0x0a20102b id 0x00006022 family 0x00000015\n  sig 0x00600f22\n",
+        ),
+        (
+            0x0070_0f22,
+            0x7022,
+            "file 0 y.bin amd 1\n0 at 36 len 9000 rev 0x0a20102b id 0x00007022 family 0x00000016\n  sig 0x00700f22\n",
+        ),
+        (
+            0x0080_0f22,
+            0x8022,
+            "file 0 y.bin amd 1\n0 at 36 len 9000 rev 0x0a20102b id 0x00008022 family 0x00000017\n  sig 0x00800f22\n",
+        ),
+        (
+            0x00a0_0f22,
+            0xa022,
+            "file 0 y.bin amd 1\n0 at 36 len 9000 rev 0x0a20102b id 0x0000a022 family 0x00000019\n  sig 0x00a00f22\n",
+        ),
+        (
+            0x0000_0f48,
+            0x0f48,
+            "file 0 y.bin amd 1\n0 at 36 len 9000 rev 0x0a20102b id 0x00000f48 family 0x0000000f\n  sig 0x00000f48\n",
+        ),
+    ];
+    for (sig, id, text) in &table {
+        let mut bytes = Vec::new(alloc);
+        push_head(&mut bytes, 16, *sig, *id)?;
+        push_section(
+            &mut bytes,
+            &Section {
+                id: *id,
+                len: 9_000,
+                ..SECTION
+            },
+        )?;
+        assert!(rt;
+            answers(
+                alloc,
+                "y.bin",
+                bytes.as_slice(),
+                "list y.bin",
+                Status::Done,
+                text
+            )?,
+            "{text}"
+        );
+    }
+    Ok(())
+}
+
+#[test]
+fn a_table_may_pass_the_first_piece(rt: HostRuntime) -> Result<(), Fail> {
+    let alloc = rt.alloc();
+    let mut bytes = Vec::new(alloc);
+    push_head(&mut bytes, 4_096, 0x00a2_0f10, 0xa210)?;
+    bytes.resize(4_108, 0)?;
+    push_section(&mut bytes, &SECTION)?;
+    let text =
+        "file 0 y.bin amd 1\n0 at 4116 len 64 rev 0x0a20102b id 0x0000a210 family 0x00000019\n  sig 0x00a20f10\n";
+    assert!(rt;
+        answers(
+            alloc,
+            "y.bin",
+            bytes.as_slice(),
+            "list y.bin",
+            Status::Done,
+            text
+        )?
+    );
+    Ok(())
+}

@@ -20,11 +20,14 @@ fn writes_the_text_and_status_of_each_command_line(rt: HostRuntime) -> Result<()
         ("list -x", Status::Usage(1), "usage 1\n"),
         ("list -x b", Status::Usage(1), "usage 1\n"),
         ("list a -b", Status::Usage(2), "usage 2\n"),
+        ("show", Status::Usage(1), "usage 1\n"),
         ("show a.bin", Status::Usage(2), "usage 2\n"),
         ("show a.bin q", Status::Usage(2), "usage 2\n"),
         ("show -a 0", Status::Usage(1), "usage 1\n"),
         ("show a.bin 0 0", Status::Usage(3), "usage 3\n"),
+        ("show a.bin 0 0 0", Status::Usage(3), "usage 3\n"),
         ("select", Status::Usage(1), "usage 1\n"),
+        ("select -t1 a", Status::Usage(1), "usage 1\n"),
         ("select t1", Status::Usage(2), "usage 2\n"),
         ("select t1 a -b c", Status::Usage(3), "usage 3\n"),
         (
@@ -37,10 +40,14 @@ fn writes_the_text_and_status_of_each_command_line(rt: HostRuntime) -> Result<()
             Status::Usage(17),
             "usage 17\n",
         ),
+        ("play", Status::Usage(1), "usage 1\n"),
         ("play t1", Status::Usage(2), "usage 2\n"),
         ("play -t s", Status::Usage(1), "usage 1\n"),
         ("play t1 -s", Status::Usage(2), "usage 2\n"),
         ("play t1 s s", Status::Usage(3), "usage 3\n"),
+        ("gen", Status::Usage(1), "usage 1\n"),
+        ("gen x", Status::Usage(1), "usage 1\n"),
+        ("gen 1 1", Status::Usage(2), "usage 2\n"),
         ("list none.bin", Status::ReadFault, "error read none.bin\n"),
         ("list d.bin", Status::Done, LISTING),
         ("list x.bin", Status::Done, LISTING_OF_PAIRS),
@@ -195,5 +202,90 @@ fn the_line_of_an_update_shows_its_date_and_minimum(rt: HostRuntime) -> Result<(
         assert_eq!(rt; status, Status::Done, "{end}");
         assert!(rt; out.bytes().ends_with(end.as_bytes()), "{end}");
     }
+    Ok(())
+}
+
+#[test]
+fn want_of_memory_has_its_line_and_each_status_its_number(rt: HostRuntime) -> Result<(), Fail> {
+    let mut out = MemSink::new(rt.alloc(), ROOM)?;
+    assert_eq!(rt; refuse(&mut out, Refusal::NoMemory), Status::NoMemory);
+    assert_eq!(rt; out.bytes(), "error memory\n".as_bytes());
+    let codes = [
+        (Status::Done, 0),
+        (Status::Usage(2), 1),
+        (Status::BadInput, 2),
+        (Status::Short, 3),
+        (Status::ReadFault, 4),
+        (Status::WriteFault, 5),
+        (Status::Panicked(1), 6),
+        (Status::NoMemory, 7),
+    ];
+    for (status, code) in &codes {
+        assert_eq!(rt; status.code(), *code);
+    }
+    Ok(())
+}
+
+#[test]
+fn entries_may_be_more_than_nine(rt: HostRuntime) -> Result<(), Fail> {
+    let alloc = rt.alloc();
+    let mut many = Vec::new(alloc);
+    for _ in 0..12 {
+        push_update(&mut many, &SMALL)?;
+    }
+    let mut files = sample_files(alloc)?;
+    files.put("many.bin", many.as_slice())?;
+    let mut out = MemSink::new(alloc, ROOM)?;
+    assert_eq!(rt;
+        run(alloc, "list many.bin", &mut files, &mut out)?,
+        Status::Done
+    );
+    assert!(rt; out.bytes().starts_with(b"file 0 many.bin intel 12\n"));
+    assert!(rt;
+        out.bytes().ends_with(
+            b"\n11 at 704 len 64 rev 0x000000f0 date 2023-07-11 sig 0x000906ea flags 0x00000002\n"
+        )
+    );
+    Ok(())
+}
+
+#[test]
+fn a_read_that_fails_behind_a_fault_is_named(rt: HostRuntime) -> Result<(), Fail> {
+    let alloc = rt.alloc();
+    let mut long = update(alloc, 0, 1, 2_048)?;
+    long.extend_from_slice(update(alloc, 0, 1, 2_048)?.as_slice())?;
+    long.extend_from_slice(update(alloc, 0, 2, 2_048)?.as_slice())?;
+    let table = [(update(alloc, 0, 2, 2_048)?, 3), (long, 4)];
+    for (bytes, call) in &table {
+        let mut files = sample_files(alloc)?;
+        files.put("f.bin", bytes.as_slice())?;
+        files.fail_at(*call)?;
+        let mut out = MemSink::new(alloc, ROOM)?;
+        let status = run(alloc, "list f.bin", &mut files, &mut out)?;
+        assert_eq!(rt; status, Status::ReadFault, "{call}");
+        assert_eq!(rt; out.bytes(), "error read f.bin\n".as_bytes(), "{call}");
+    }
+    Ok(())
+}
+
+#[test]
+fn a_name_may_be_longer_than_a_line(rt: HostRuntime) -> Result<(), Fail> {
+    let alloc = rt.alloc();
+    let mut name = String::new(alloc);
+    for _ in 0..255 {
+        name.push_str("n")?;
+    }
+    let line = format!(in alloc; "list {name}")?;
+    let text = format!(in alloc; "error read {name}\n")?;
+    assert!(rt;
+        answers(
+            alloc,
+            "x",
+            b"",
+            line.as_str(),
+            Status::ReadFault,
+            text.as_str()
+        )?
+    );
     Ok(())
 }

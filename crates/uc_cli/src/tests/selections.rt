@@ -1,4 +1,5 @@
 use super::*;
+use update_samples::{SECTION, Section, push_head, push_section};
 
 #[test]
 fn shows_an_entry_with_its_bytes(rt: HostRuntime) -> Result<(), Fail> {
@@ -9,6 +10,16 @@ fn shows_an_entry_with_its_bytes(rt: HostRuntime) -> Result<(), Fail> {
             "show a.bin 0",
             Status::Done,
             "0 at 0 len 64 rev 0x000000f0 date 2023-07-11 sig 0x000906ea flags 0x00000002\n01000000f000000023201107ea060900afd7e5f8010000000200000010000000\n4000000000000000000000000000000000000000000000000000000000000000\n",
+        ),
+        (
+            "show x.bin 0",
+            Status::Done,
+            "0 at 0 len 108 rev 0x000000f0 date 2023-07-11 sig 0x000906ea flags 0x00000002\n01000000f000000023201107ea06090083d7e5f8010000000200000010000000\n6c00000000000000000000000000000000000000000000000000000000000000\n020000002043220e000000000000000000000000eb0609000200000082d7e5f8\nec0609002200000061d7e5f8\n",
+        ),
+        (
+            "show z.bin 1",
+            Status::Done,
+            "1 at 168 len 64 rev 0x0a201210 id 0x0000a210 family 0x00000019\n000000001012200a0000000000000000000000000000000010a2000000000000\n0000000000000000000000000000000000000000000000000000000000000000\n",
         ),
         ("show a.bin 1", Status::BadInput, "error entry 1\n"),
         ("show a.bin 0x10", Status::BadInput, "error entry 16\n"),
@@ -132,5 +143,109 @@ fn names_the_first_fault_of_a_topology(rt: HostRuntime) -> Result<(), Fail> {
             text
         )?
     );
+    Ok(())
+}
+
+#[test]
+fn cores_may_be_more_than_nine(rt: HostRuntime) -> Result<(), Fail> {
+    let alloc = rt.alloc();
+    let mut text = String::from_str(alloc, "ucode-topology 1\nvendor intel\n")?;
+    for core in 0..11 {
+        let line = format!(in alloc;
+            "core {core} sig 0x906ea flags 0 rev 0xb4\ncpu {core} core {core}\n"
+        )?;
+        text.push_str(line.as_str())?;
+    }
+    let mut files = sample_files(alloc)?;
+    files.put("t", text.as_str().as_bytes())?;
+    let mut out = MemSink::new(alloc, ROOM)?;
+    assert_eq!(rt;
+        run(alloc, "select t a.bin", &mut files, &mut out)?,
+        Status::Done
+    );
+    assert!(rt;
+        out.bytes()
+            .ends_with(b"\ncore 10 rev 0x000000b4 offer none\n")
+    );
+    Ok(())
+}
+
+#[test]
+fn a_minimum_is_compared_unsigned(rt: HostRuntime) -> Result<(), Fail> {
+    let alloc = rt.alloc();
+    let high = small(
+        alloc,
+        &SmallUpdate {
+            rev: 0x8000_00f0,
+            min: 0xb4,
+            ..SMALL
+        },
+    )?;
+    let mut files = sample_files(alloc)?;
+    files.put("h.bin", high.as_slice())?;
+    files.put(
+        "t",
+        b"ucode-topology 1\nvendor intel\ncore 0 sig 0x906ea flags 0x2 rev 0x80000000\ncpu 0 core 0\n",
+    )?;
+    let mut out = MemSink::new(alloc, ROOM)?;
+    assert_eq!(rt;
+        run(alloc, "select t h.bin", &mut files, &mut out)?,
+        Status::Done
+    );
+    assert_eq!(rt;
+        out.bytes(),
+        "core 0 rev 0x80000000 offer 0 rev 0x800000f0 safe\n".as_bytes()
+    );
+    Ok(())
+}
+
+#[test]
+fn cores_that_differ_in_flags_alone_have_offers_of_their_own(rt: HostRuntime) -> Result<(), Fail> {
+    let alloc = rt.alloc();
+    let mut files = sample_files(alloc)?;
+    files.put(
+        "t",
+        b"ucode-topology 1\nvendor intel\ncore 0 sig 0x906ea flags 0x2 rev 0xb4\ncore 1 sig 0x906ea flags 0x4 rev 0xb4\ncpu 0 core 0\ncpu 1 core 1\n",
+    )?;
+    let mut out = MemSink::new(alloc, ROOM)?;
+    assert_eq!(rt;
+        run(alloc, "select t a.bin", &mut files, &mut out)?,
+        Status::Done
+    );
+    assert_eq!(rt;
+        out.bytes(),
+        "core 0 rev 0x000000b4 offer 0 rev 0x000000f0\ncore 1 rev 0x000000b4 offer none\n".as_bytes()
+    );
+    Ok(())
+}
+
+/// The offer of a core of this signature, by a row of this id, of a patch with the id 0x1022.
+fn served(alloc: Global, id: u32, sig: u32) -> Result<bool, Fail> {
+    let mut bytes = Vec::new(alloc);
+    push_head(&mut bytes, 16, 0x0010_0f22, id)?;
+    push_section(
+        &mut bytes,
+        &Section {
+            id: 0x1022,
+            ..SECTION
+        },
+    )?;
+    let mut files = sample_files(alloc)?;
+    files.put("y.bin", bytes.as_slice())?;
+    let topology = format!(in alloc;
+        "ucode-topology 1\nvendor amd\ncore 0 sig {sig} flags 0 rev 1\ncpu 0 core 0\n"
+    )?;
+    files.put("t", topology.as_str().as_bytes())?;
+    let mut out = MemSink::new(alloc, ROOM)?;
+    run(alloc, "select t y.bin", &mut files, &mut out)?;
+    Ok(out.bytes() == "core 0 rev 0x00000001 offer 0 rev 0x0a20102b\n".as_bytes())
+}
+
+#[test]
+fn ids_and_signatures_are_compared_whole(rt: HostRuntime) -> Result<(), Fail> {
+    let alloc = rt.alloc();
+    assert!(rt; served(alloc, 0x1022, 0x0010_0f22)?);
+    assert!(rt; !served(alloc, 0x2022, 0x0010_0f22)?);
+    assert!(rt; !served(alloc, 0x1022, 0x1010_0f22)?);
     Ok(())
 }
