@@ -10,6 +10,7 @@ use update_samples::{
 
 mod faults;
 mod lists;
+mod patience;
 mod plays;
 mod selections;
 mod sessions;
