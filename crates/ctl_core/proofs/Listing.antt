@@ -34,7 +34,7 @@ schedule_run plan beats sound padded = record {
   ran = plays_are_listed item_line plan beats (schedule_lines plan beats) (outcome_at plan (shown_by plan (schedule_end plan beats))) sound padded refl (record { decide = refl; ends = refl; revs = refl });
 }
 
-pub schedule_is_run : {D : Type 0} (stands : D → List ℕ → Type 0) (faults : D → ℕ) (plan : Plan) (beats : List Beat) (before after : List RunOf) (old new : D) (result : Result Tables RunAnswer) → Sound plan → Padded plan → faults old ≤ faults new → OnOk result (faults new ≡ faults old) → PlayedTo stands faults plan beats old new result → IsRun stands faults true plan beats before after old new result
+pub schedule_is_run : {D : Type 0} (stands : D → List ℕ → Type 0) (faults : D → ℕ) (plan : Plan) (beats : List Beat) (before after : List RunOf) (old new : D) (result : Result Tables RunAnswer) → Sound plan → Padded plan → faults old ≤ faults new → OnOk result (faults new ≡ faults old) → PlayedTo stands faults plan beats old new result → IsRun (record { stands = stands; faults = faults; lists = true }) plan beats (record { runs = before; sink = old }) (record { runs = after; sink = new }) result
 schedule_is_run stands faults plan beats before after old new (Ok outcome) sound padded later still played = record {
   later = later;
   still = still;

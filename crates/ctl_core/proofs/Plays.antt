@@ -30,7 +30,7 @@ lines_append plan before mid xs ys is =
 
 module _ {D : Type 0} (stands : D → List ℕ → Type 0) (faults : D → ℕ) (plan : Plan) where
   -- events, and then others
-  pub Plays-then : {E : Type 0} (before mid after : Running) (xs ys : List Event) (old between new : D) → Plays {E = E} stands faults plan before mid xs old between (Ok tt) → Plays {E = E} stands faults plan mid after ys between new (Ok tt) → Plays {E = E} stands faults plan before after (xs ++ ys) old new (Ok tt)
+  pub Plays-then : {E : Type 0} (before mid after : Running) (xs ys : List Event) (old between new : D) → Plays {E = E} stands faults plan (record { moment = before; sink = old }) (record { moment = mid; sink = between }) xs (Ok tt) → Plays {E = E} stands faults plan (record { moment = mid; sink = between }) (record { moment = after; sink = new }) ys (Ok tt) → Plays {E = E} stands faults plan (record { moment = before; sink = old }) (record { moment = after; sink = new }) (xs ++ ys) (Ok tt)
   Plays-then {E} before mid after xs ys old between new first second = record {
     wrote =
         subst (λ text. Writes {E = E} stands faults old new text (Ok tt)) (sym (lines_append plan before mid xs ys first.came))
@@ -39,7 +39,7 @@ module _ {D : Type 0} (stands : D → List ℕ → Type 0) (faults : D → ℕ) 
   }
 
   -- events of which a front of the lines was not followed by the rest, whatever comes behind them
-  pub Plays-cut : {E F : Type 0} (e : E) (r : Result (Unit {0}) F) → IsErr r → (before mid after other : Running) (xs ys zs : List Event) (old between new : D) → Plays {E = E} stands faults plan before mid xs old between (Ok tt) → Plays {E = E} stands faults plan mid other ys between new (Err e) → Plays stands faults plan before after (xs ++ (ys ++ zs)) old new r
+  pub Plays-cut : {E F : Type 0} (e : E) (r : Result (Unit {0}) F) → IsErr r → (before mid after other : Running) (xs ys zs : List Event) (old between new : D) → Plays {E = E} stands faults plan (record { moment = before; sink = old }) (record { moment = mid; sink = between }) xs (Ok tt) → Plays {E = E} stands faults plan (record { moment = mid; sink = between }) (record { moment = other; sink = new }) ys (Err e) → Plays stands faults plan (record { moment = before; sink = old }) (record { moment = after; sink = new }) (xs ++ (ys ++ zs)) r
   Plays-cut e (Ok done) err before mid after other xs ys zs old between new first second = cc
   Plays-cut {E} {F} e (Err f) err before mid after other xs ys zs old between new first second = record {
     wrote =
@@ -50,7 +50,7 @@ module _ {D : Type 0} (stands : D → List ℕ → Type 0) (faults : D → ℕ) 
   }
 
   -- once it is over nothing more is printed
-  pub Plays-over : {E : Type 0} (before after : Running) (xs ys : List Event) (old new : D) → is_over plan after ≡ true → Plays {E = E} stands faults plan before after xs old new (Ok tt) → Plays {E = E} stands faults plan before after (xs ++ ys) old new (Ok tt)
+  pub Plays-over : {E : Type 0} (before after : Running) (xs ys : List Event) (old new : D) → is_over plan after ≡ true → Plays {E = E} stands faults plan (record { moment = before; sink = old }) (record { moment = after; sink = new }) xs (Ok tt) → Plays {E = E} stands faults plan (record { moment = before; sink = old }) (record { moment = after; sink = new }) (xs ++ ys) (Ok tt)
   Plays-over {E} before after xs ys old new over first =
       let nothing : lines_of plan after ys ≡ [] = ap (λ (items : List Item). flat_map item_line items) (play_over plan after ys over) in
       record {
@@ -63,20 +63,20 @@ module _ {D : Type 0} (stands : D → List ℕ → Type 0) (faults : D → ℕ) 
 
   -- The steps of a loop, in which the plan stays.
 
-  pub more_played : {E : Type 0} (other : Plan) → other ≡ plan → (before mid after : Running) (xs ys zs : List Event) (old between new : D) → xs ++ ys ≡ zs → Plays {E = E} stands faults plan before mid xs old between (Ok tt) → Plays {E = E} stands faults other mid after ys between new (Ok tt) → Plays {E = E} stands faults plan before after zs old new (Ok tt)
+  pub more_played : {E : Type 0} (other : Plan) → other ≡ plan → (before mid after : Running) (xs ys zs : List Event) (old between new : D) → xs ++ ys ≡ zs → Plays {E = E} stands faults plan (record { moment = before; sink = old }) (record { moment = mid; sink = between }) xs (Ok tt) → Plays {E = E} stands faults other (record { moment = mid; sink = between }) (record { moment = after; sink = new }) ys (Ok tt) → Plays {E = E} stands faults plan (record { moment = before; sink = old }) (record { moment = after; sink = new }) zs (Ok tt)
   more_played {E} other same before mid after xs ys zs old between new is first second =
-      subst (λ (events : List Event). Plays {E = E} stands faults plan before after events old new (Ok tt)) is
-      (Plays-then before mid after xs ys old between new first (subst (λ (p : Plan). Plays {E = E} stands faults p mid after ys between new (Ok tt)) same second))
+      subst (λ (events : List Event). Plays {E = E} stands faults plan (record { moment = before; sink = old }) (record { moment = after; sink = new }) events (Ok tt)) is
+      (Plays-then before mid after xs ys old between new first (subst (λ (p : Plan). Plays {E = E} stands faults p (record { moment = mid; sink = between }) (record { moment = after; sink = new }) ys (Ok tt)) same second))
 
-  pub cut_short : {E F : Type 0} (e : E) (r : Result (Unit {0}) F) → IsErr r → (other : Plan) → other ≡ plan → (before mid next after : Running) (xs ys zs whole : List Event) (old between new : D) → xs ++ (ys ++ zs) ≡ whole → Plays {E = E} stands faults plan before mid xs old between (Ok tt) → Plays {E = E} stands faults other mid next ys between new (Err e) → Plays stands faults plan before after whole old new r
+  pub cut_short : {E F : Type 0} (e : E) (r : Result (Unit {0}) F) → IsErr r → (other : Plan) → other ≡ plan → (before mid next after : Running) (xs ys zs whole : List Event) (old between new : D) → xs ++ (ys ++ zs) ≡ whole → Plays {E = E} stands faults plan (record { moment = before; sink = old }) (record { moment = mid; sink = between }) xs (Ok tt) → Plays {E = E} stands faults other (record { moment = mid; sink = between }) (record { moment = next; sink = new }) ys (Err e) → Plays stands faults plan (record { moment = before; sink = old }) (record { moment = after; sink = new }) whole r
   cut_short {E} e r err other same before mid next after xs ys zs whole old between new is first second =
-      subst (λ (events : List Event). Plays stands faults plan before after events old new r) is
-      (Plays-cut {E = E} e r err before mid after next xs ys zs old between new first (subst (λ (p : Plan). Plays {E = E} stands faults p mid next ys between new (Err e)) same second))
+      subst (λ (events : List Event). Plays stands faults plan (record { moment = before; sink = old }) (record { moment = after; sink = new }) events r) is
+      (Plays-cut {E = E} e r err before mid after next xs ys zs old between new first (subst (λ (p : Plan). Plays {E = E} stands faults p (record { moment = mid; sink = between }) (record { moment = next; sink = new }) ys (Err e)) same second))
 
-  pub nothing_more : {E F : Type 0} (other : Plan) → other ≡ plan → (before after : Running) (xs ys whole : List Event) (old new : D) → xs ++ ys ≡ whole → is_over other after ≡ true → Plays {E = E} stands faults plan before after xs old new (Ok tt) → Plays {E = F} stands faults plan before after whole old new (Ok tt)
+  pub nothing_more : {E F : Type 0} (other : Plan) → other ≡ plan → (before after : Running) (xs ys whole : List Event) (old new : D) → xs ++ ys ≡ whole → is_over other after ≡ true → Plays {E = E} stands faults plan (record { moment = before; sink = old }) (record { moment = after; sink = new }) xs (Ok tt) → Plays {E = F} stands faults plan (record { moment = before; sink = old }) (record { moment = after; sink = new }) whole (Ok tt)
   nothing_more {E} {F} other same before after xs ys whole old new is over first =
-      let retyped : Plays {E = F} stands faults plan before after xs old new (Ok tt) = record { wrote = record { later = first.wrote.later; still = first.wrote.still; outcome = first.wrote.outcome }; came = first.came } in
-      subst (λ (events : List Event). Plays {E = F} stands faults plan before after events old new (Ok tt)) is
+      let retyped : Plays {E = F} stands faults plan (record { moment = before; sink = old }) (record { moment = after; sink = new }) xs (Ok tt) = record { wrote = record { later = first.wrote.later; still = first.wrote.still; outcome = first.wrote.outcome }; came = first.came } in
+      subst (λ (events : List Event). Plays {E = F} stands faults plan (record { moment = before; sink = old }) (record { moment = after; sink = new }) events (Ok tt)) is
       (Plays-over {E = F} before after xs ys old new (subst (λ (p : Plan). is_over p after ≡ true) same over) retyped)
 
 -- Parts of the events of a schedule.
@@ -165,10 +165,10 @@ beats_left plan beats i = sym (events_append plan (take i beats) (drop i beats))
 
 -- A whole schedule, on a core that begins.
 
-pub played_at : {D E : Type 0} (stands : D → List ℕ → Type 0) (faults : D → ℕ) (p q : Plan) (before after : Running) (beats : List Beat) (old new : D) (r : Result (Unit {0}) E) → p ≡ q → before ≡ opening_running q → Plays stands faults p before after (events_of p beats) old new r → Plays stands faults q (opening_running q) after (events_of q beats) old new r
+pub played_at : {D E : Type 0} (stands : D → List ℕ → Type 0) (faults : D → ℕ) (p q : Plan) (before after : Running) (beats : List Beat) (old new : D) (r : Result (Unit {0}) E) → p ≡ q → before ≡ opening_running q → Plays stands faults p (record { moment = before; sink = old }) (record { moment = after; sink = new }) (events_of p beats) r → Plays stands faults q (record { moment = opening_running q; sink = old }) (record { moment = after; sink = new }) (events_of q beats) r
 played_at stands faults p q before after beats old new r same opens plays =
-    subst (λ (m : Running). Plays stands faults q m after (events_of q beats) old new r) opens
-    (subst (λ (k : Plan). Plays stands faults k before after (events_of k beats) old new r) same plays)
+    subst (λ (m : Running). Plays stands faults q (record { moment = m; sink = old }) (record { moment = after; sink = new }) (events_of q beats) r) opens
+    (subst (λ (k : Plan). Plays stands faults k (record { moment = before; sink = old }) (record { moment = after; sink = new }) (events_of k beats) r) same plays)
 
 pub shows_at : (p q : Plan) (m n : Running) (outcome : Outcome) → p ≡ q → m ≡ n → OutcomeShows p outcome (shown_by p m) → OutcomeShows q outcome (shown_by q n)
 shows_at p q m n outcome same is shows =

@@ -21,11 +21,16 @@ use Rattle.ctl_core.specs.Outcomes.{outcome_of}
 abbrev pub lines_of : Plan → Running → List Event → List ℕ
 lines_of plan moment events = flat_map item_line (play plan moment events)
 
+-- a run under way: its moment, and the sink of its lines
+pub record UnderWay (D : Type 0) : Type 0 where
+  pub moment : Running
+  pub sink : D
+
 -- The lines were written, and the moment is the last one; or a front of the lines was written, and the count of faults
 -- rose.
-pub record Plays {D E : Type 0} (stands : D → List ℕ → Type 0) (faults : D → ℕ) (plan : Plan) (before after : Running) (events : List Event) (old new : D) (result : Result (Unit {0}) E) : Type 0 where
-  pub wrote : Writes stands faults old new (lines_of plan before events) result
-  pub came : OnOk result (after ≡ last_moment plan before events)
+pub record Plays {D E : Type 0} (stands : D → List ℕ → Type 0) (faults : D → ℕ) (plan : Plan) (before now : UnderWay D) (events : List Event) (result : Result (Unit {0}) E) : Type 0 where
+  pub wrote : Writes stands faults before.sink now.sink (lines_of plan before.moment events) result
+  pub came : OnOk result (now.moment ≡ last_moment plan before.moment events)
 
 -- the lines of a whole schedule
 abbrev pub schedule_lines : Plan → List Beat → List ℕ

@@ -13,35 +13,45 @@ use Rattle.ctl_core.specs.declared.runs.RunAnswer.{RunAnswer}
 use Rattle.ctl_core.specs.declared.runs.RunAnswer.TheVariants.{WriteFault, NoMemory}
 use Rattle.ctl_core.specs.Outcomes.{outcome_of}
 
+-- the outside of a rendezvous by its meanings: which bytes stand in a sink, and the count of the sink's faults; and whether
+-- items are listed
+pub record RunOutside (D : Type 0) : Type 1 where
+  pub stands : D → List ℕ → Type 0
+  pub faults : D → ℕ
+  pub lists : Bool
+
+-- what runs leave: those that were kept, and the sink that they were written to
+pub record RunTraces (D : Type 0) : Type 0 where
+  pub runs : List RunOf
+  pub sink : D
+
 -- a run came to this outcome: its text was written, and where it prints no items it was kept
-pub record RanTo {D : Type 0} (stands : D → List ℕ → Type 0) (lists : Bool) (plan : Plan) (beats : List Beat) (before after : List RunOf) (old new : D) (outcome : Outcome) : Type 0 where
+pub record RanTo {D : Type 0} (outside : RunOutside D) (plan : Plan) (beats : List Beat) (before now : RunTraces D) (outcome : Outcome) : Type 0 where
   pub text : List ℕ
   pub late : Bool
-  pub ran : Ran item_line lists plan beats text outcome late
-  pub grew : Grew stands old new text
-  pub kept : lists ≡ false → after ≡ before ++ record { plan = plan; outcome = outcome; late = late } ∷ []
+  pub ran : Ran item_line outside.lists plan beats text outcome late
+  pub grew : Grew outside.stands before.sink now.sink text
+  pub kept : outside.lists ≡ false → now.runs ≡ before.runs ++ record { plan = plan; outcome = outcome; late = late } ∷ []
 
 -- a front of a run's text was written, the count of faults rose, and nothing was kept
-pub record CutShort {D : Type 0} (stands : D → List ℕ → Type 0) (faults : D → ℕ) (lists : Bool) (plan : Plan) (beats : List Beat) (before after : List RunOf) (old new : D) : Type 0 where
-  pub run : SomeRun item_line lists plan beats
-  pub front : GrewByFront stands old new run.text
-  pub rose : Rose (faults old) (faults new)
-  pub kept : lists ≡ false → after ≡ before
+pub record CutShort {D : Type 0} (outside : RunOutside D) (plan : Plan) (beats : List Beat) (before now : RunTraces D) : Type 0 where
+  pub run : SomeRun item_line outside.lists plan beats
+  pub front : GrewByFront outside.stands before.sink now.sink run.text
+  pub rose : Rose (outside.faults before.sink) (outside.faults now.sink)
+  pub kept : outside.lists ≡ false → now.runs ≡ before.runs
 
 -- nothing was written or kept
-pub record NothingRan {D : Type 0} (lists : Bool) (before after : List RunOf) (old new : D) : Type 0 where
-  pub same_sink : new ≡ old
-  pub kept : lists ≡ false → after ≡ before
+pub record NothingRan {D : Type 0} (lists : Bool) (before now : RunTraces D) : Type 0 where
+  pub same_sink : now.sink ≡ before.sink
+  pub kept : lists ≡ false → now.runs ≡ before.runs
 
-abbrev pub CameTo : {D : Type 0} → (D → List ℕ → Type 0) → (D → ℕ) → Bool → Plan → List Beat → List RunOf → List RunOf → D → D → Result Tables RunAnswer → Type 0
-CameTo stands faults lists plan beats before after old new (Ok outcome) =
-    RanTo stands lists plan beats before after old new (outcome_of outcome)
-CameTo stands faults lists plan beats before after old new (Err WriteFault) =
-    CutShort stands faults lists plan beats before after old new
-CameTo stands faults lists plan beats before after old new (Err NoMemory) = NothingRan lists before after old new
+abbrev pub CameTo : {D : Type 0} → RunOutside D → Plan → List Beat → RunTraces D → RunTraces D → Result Tables RunAnswer → Type 0
+CameTo outside plan beats before now (Ok outcome) = RanTo outside plan beats before now (outcome_of outcome)
+CameTo outside plan beats before now (Err WriteFault) = CutShort outside plan beats before now
+CameTo outside plan beats before now (Err NoMemory) = NothingRan outside.lists before now
 
-pub record IsRun {D : Type 0} (stands : D → List ℕ → Type 0) (faults : D → ℕ) (lists : Bool) (plan : Plan) (beats : List Beat) (before after : List RunOf) (old new : D) (result : Result Tables RunAnswer) : Type 0 where
+pub record IsRun {D : Type 0} (outside : RunOutside D) (plan : Plan) (beats : List Beat) (before now : RunTraces D) (result : Result Tables RunAnswer) : Type 0 where
   -- the count of faults never falls, and stands still where the run came to an outcome
-  pub later : faults old ≤ faults new
-  pub still : OnOk result (faults new ≡ faults old)
-  pub answer : CameTo stands faults lists plan beats before after old new result
+  pub later : outside.faults before.sink ≤ outside.faults now.sink
+  pub still : OnOk result (outside.faults now.sink ≡ outside.faults before.sink)
+  pub answer : CameTo outside plan beats before now result

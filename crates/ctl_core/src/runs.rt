@@ -67,7 +67,12 @@ pub trait Rendezvous {
         requires sound { IsSound plan.now }
         requires few { plan.now.threads ≤ limit self.old }
         requires in_range { All (BeatInRange plan.now.threads) beats.now }
-        ensures answer { IsRun S.stands S.faults lists (plan_of plan.now) beats.now (runs self.old) (runs self.new) out.old out.new result }
+        ensures answer { IsRun
+            (record { stands = S.stands; faults = S.faults; lists = lists })
+            (plan_of plan.now) beats.now
+            (record { runs = runs self.old; sink = out.old })
+            (record { runs = runs self.new; sink = out.new })
+            result }
         ensures most_stays { limit self.new ≡ limit self.old };
 
     /// Every sound plan has a run, whatever the beats.

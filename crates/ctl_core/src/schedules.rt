@@ -82,7 +82,9 @@ impl Rendezvous for Scheduled {
 /// Plays beats, as far as some thread is unfinished.
 fn play_beats<S: Sink>(core: &mut Core<'_>, beats: &[Beat], out: &mut S) -> Result<(), SinkFailed>
     requires { All (BeatInRange (plan_in core.old).threads) beats.now }
-    ensures plays { Plays S.stands S.faults (plan_in core.old) (moment_in core.old) (moment_in core.new) (events_of (plan_in core.old) beats.now) out.old out.new result }
+    ensures plays { Plays S.stands S.faults (plan_in core.old)
+        (record { moment = moment_in core.old; sink = out.old }) (record { moment = moment_in core.new; sink = out.new })
+        (events_of (plan_in core.old) beats.now) result }
     ensures plan { plan_in core.new ≡ plan_in core.old }
 {
     for beat in beats {
@@ -96,7 +98,9 @@ fn play_beats<S: Sink>(core: &mut Core<'_>, beats: &[Beat], out: &mut S) -> Resu
 
 fn play_beat<S: Sink>(core: &mut Core<'_>, beat: Beat, out: &mut S) -> Result<(), SinkFailed>
     requires { BeatInRange (plan_in core.old).threads beat }
-    ensures plays { Plays S.stands S.faults (plan_in core.old) (moment_in core.old) (moment_in core.new) (events_of (plan_in core.old) (beat ∷ [])) out.old out.new result }
+    ensures plays { Plays S.stands S.faults (plan_in core.old)
+        (record { moment = moment_in core.old; sink = out.old }) (record { moment = moment_in core.new; sink = out.new })
+        (events_of (plan_in core.old) (beat ∷ [])) result }
     ensures plan { plan_in core.new ≡ plan_in core.old }
 {
     match beat {
@@ -115,7 +119,9 @@ fn play_beat<S: Sink>(core: &mut Core<'_>, beat: Beat, out: &mut S) -> Result<()
 
 /// Plays so many rounds.
 fn play_rounds<S: Sink>(core: &mut Core<'_>, count: u16, out: &mut S) -> Result<(), SinkFailed>
-    ensures plays { Plays S.stands S.faults (plan_in core.old) (moment_in core.old) (moment_in core.new) (repeated count (map StepOf (threads_from (plan_in core.old) 0)) []) out.old out.new result }
+    ensures plays { Plays S.stands S.faults (plan_in core.old)
+        (record { moment = moment_in core.old; sink = out.old }) (record { moment = moment_in core.new; sink = out.new })
+        (repeated count (map StepOf (threads_from (plan_in core.old) 0)) []) result }
     ensures plan { plan_in core.new ≡ plan_in core.old }
 {
     for _round in 0..count {
@@ -129,7 +135,9 @@ fn play_rounds<S: Sink>(core: &mut Core<'_>, count: u16, out: &mut S) -> Result<
 
 /// Plays a step of each thread in ascending order. All their lines are composed in one buffer.
 fn play_round<S: Sink>(core: &mut Core<'_>, out: &mut S) -> Result<(), SinkFailed>
-    ensures plays { Plays S.stands S.faults (plan_in core.old) (moment_in core.old) (moment_in core.new) (map StepOf (threads_from (plan_in core.old) 0)) out.old out.new result }
+    ensures plays { Plays S.stands S.faults (plan_in core.old)
+        (record { moment = moment_in core.old; sink = out.old }) (record { moment = moment_in core.new; sink = out.new })
+        (map StepOf (threads_from (plan_in core.old) 0)) result }
     ensures plan { plan_in core.new ≡ plan_in core.old }
 {
     let mut line = ArrayVec::new();
@@ -149,7 +157,9 @@ fn play_event<S: Sink>(
     out: &mut S,
 ) -> Result<(), SinkFailed>
     requires { thread_of event < (plan_in core.old).threads }
-    ensures plays { Plays S.stands S.faults (plan_in core.old) (moment_in core.old) (moment_in core.new) (event ∷ []) out.old out.new result }
+    ensures plays { Plays S.stands S.faults (plan_in core.old)
+        (record { moment = moment_in core.old; sink = out.old }) (record { moment = moment_in core.new; sink = out.new })
+        (event ∷ []) result }
     ensures plan { plan_in core.new ≡ plan_in core.old }
 {
     if !core.is_over() {

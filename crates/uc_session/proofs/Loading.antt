@@ -35,7 +35,8 @@ use Rattle.ctl_core.specs.declared.runs.RunAnswer.{RunAnswer}
 use Rattle.ctl_core.specs.Outcomes.{outcome_of}
 use Rattle.uc_session.specs.Acts.{Stage}
 use Rattle.uc_session.specs.Loads.{Ready, SetsOut}
-use Rattle.uc_session.specs.Meeting.{RunOutside, RunTraces, CameTo, Meets, cut_short}
+use Rattle.ctl_core.specs.Runs.{RunOutside, RunTraces}
+use Rattle.uc_session.specs.Meeting.{CameTo, Meets, cut_short}
 use Rattle.uc_session.specs.Playing.{Does}
 use Rattle.uc_session.proofs.Behind.{come}
 use Rattle.uc_session.proofs.Meeting.{run_outside, traces_of, is_stopped, is_met}

@@ -33,8 +33,8 @@ use Rattle.session_parts.specs.Boots.{puts_of}
 use Rattle.ctl_core.specs.declared.outcomes.Outcome.{Outcome as Tables}
 use Rattle.ctl_core.specs.declared.runs.RunAnswer.{RunAnswer}
 use Rattle.ctl_core.specs.declared.runs.RunAnswer.TheVariants as run
-use Rattle.ctl_core.specs.Runs.{IsRun}
-use Rattle.uc_session.specs.Meeting.{RunOutside, RunTraces, CameTo, CutShort, Meets, cut_short}
+use Rattle.ctl_core.specs.Runs.{RunOutside, RunTraces, IsRun}
+use Rattle.uc_session.specs.Meeting.{CameTo, CutShort, Meets, cut_short}
 use Rattle.uc_session.specs.Playing.{told_of, Follows, Does}
 use Rattle.uc_session.proofs.Behind as playing
 use Rattle.uc_session.proofs.Behind.{come}
@@ -65,7 +65,7 @@ module _ {D : Type 0} (outside : RunOutside D) (plan : Plan) (beats : List Beat)
   pub they_met : {E : Type 0} (before now : RunTraces D) (mid : D) (result : Result Tables RunAnswer) →
       SomeRun item_line outside.lists plan beats →
       Writes {E = E} outside.stands outside.faults before.sink mid offered (Ok tt) →
-      IsRun outside.stands outside.faults outside.lists plan beats before.runs now.runs mid now.sink result →
+      IsRun outside plan beats (record before { sink = mid }) now result →
       Meets outside plan beats offered before now result
   they_met {E = E} before now mid (Ok outcome) some wrote is = record {
     items = is.answer.text;

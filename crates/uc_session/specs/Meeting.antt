@@ -7,7 +7,7 @@ use Rattle.rendezvous_steps.specs.declared.ends.Beat.{Beat}
 use Rattle.rendezvous_steps.specs.Plan.{Plan}
 use Rattle.rendezvous_model.specs.Outcome.{Outcome}
 use Rattle.rendezvous_rule.specs.Ran.{Ran}
-use Rattle.rendezvous_rule.specs.Runs.{RunOf, SomeRun}
+use Rattle.rendezvous_rule.specs.Runs.{SomeRun}
 use Rattle.item_text.specs.Items.{item_line}
 use Rattle.session_text.specs.declared.answers.Played.{Played}
 use Rattle.session_text.specs.declared.answers.Played.TheVariants as played
@@ -15,18 +15,7 @@ use Rattle.ctl_core.specs.declared.outcomes.Outcome.{Outcome as Tables}
 use Rattle.ctl_core.specs.declared.runs.RunAnswer.{RunAnswer}
 use Rattle.ctl_core.specs.declared.runs.RunAnswer.TheVariants.{WriteFault, NoMemory}
 use Rattle.ctl_core.specs.Outcomes.{outcome_of}
-
--- the outside of a rendezvous by its meanings: which bytes stand in a sink, and the count of the sink's faults; and whether
--- items are listed
-pub record RunOutside (D : Type 0) : Type 1 where
-  pub stands : D → List ℕ → Type 0
-  pub faults : D → ℕ
-  pub lists : Bool
-
--- what runs leave: those that were kept, and the sink that they were written to
-pub record RunTraces (D : Type 0) : Type 0 where
-  pub runs : List RunOf
-  pub sink : D
+use Rattle.ctl_core.specs.Runs.{RunOutside, RunTraces}
 
 -- the rendezvous came to an outcome: what is offered was written, and then the text of the run
 pub record CameTo {D : Type 0} (outside : RunOutside D) (plan : Plan) (beats : List Beat) (offered : List ℕ) (before now : RunTraces D) (outcome : Outcome) : Type 0 where

@@ -8,5 +8,5 @@ use Rattle.ctl_core.proofs.schedules.play_beat.Goals as goal
 
 pub returns-in-Rounds-clause-plays : goal.returns-in-Rounds-clause-plays
 returns-in-Rounds-clause-plays g c =
-    subst (λ (beat : Beat). Plays {E = SinkFailed} g.S.Sink.stands g.S.Sink.faults (plan_in c.args.core.now) (moment_in c.args.core.now) (moment_in c.play_rounds.new.core) (events_of (plan_in c.args.core.now) (beat ∷ [])) c.args.out.now c.play_rounds.new.out c.play_rounds.result)
+    subst (λ (beat : Beat). Plays {E = SinkFailed} g.S.Sink.stands g.S.Sink.faults (plan_in c.args.core.now) (record { moment = moment_in c.args.core.now; sink = c.args.out.now }) (record { moment = moment_in c.play_rounds.new.core; sink = c.play_rounds.new.out }) (events_of (plan_in c.args.core.now) (beat ∷ [])) c.play_rounds.result)
     (sym c.in-Rounds.is) c.play_rounds.ensures.plays

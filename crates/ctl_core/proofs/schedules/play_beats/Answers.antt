@@ -48,4 +48,4 @@ returns-clause-plays g c =
     let plan = plan_in c.args.core.now in
     let beats = c.args.beats.now in
     let all : take c.loop-beat.beat-index beats ≡ beats = take_all c.loop-beat.beat-index beats c.loop-beat-test.false in
-    subst (λ (bs : List Beat). Plays {E = SinkFailed} g.S.Sink.stands g.S.Sink.faults plan (moment_in c.args.core.now) (moment_in c.loop-beat.core) (events_of plan bs) c.args.out.now c.loop-beat.out (Ok tt)) all c.loop-beat.invariant.plays
+    subst (λ (bs : List Beat). Plays {E = SinkFailed} g.S.Sink.stands g.S.Sink.faults plan (record { moment = moment_in c.args.core.now; sink = c.args.out.now }) (record { moment = moment_in c.loop-beat.core; sink = c.loop-beat.out }) (events_of plan bs) (Ok tt)) all c.loop-beat.invariant.plays

@@ -41,4 +41,4 @@ returns-clause-plays g c =
     let plan = plan_in c.args.core.now in
     let step : ℕ → Event = λ t. Step t in
     let all : c.loop-thread.thread ≡ plan.threads - 0 = omega (arith, c.threads-thread-end.ensures, c.loop-thread-test.false, c.loop-thread.auto.thread-end) in
-    subst (λ (n : ℕ). Plays {E = SinkFailed} g.S.Sink.stands g.S.Sink.faults plan (moment_in c.args.core.now) (moment_in c.loop-thread.core) (map step (range_with_len 0 n)) c.args.out.now c.loop-thread.out (Ok tt)) all c.loop-thread.invariant.plays
+    subst (λ (n : ℕ). Plays {E = SinkFailed} g.S.Sink.stands g.S.Sink.faults plan (record { moment = moment_in c.args.core.now; sink = c.args.out.now }) (record { moment = moment_in c.loop-thread.core; sink = c.loop-thread.out }) (map step (range_with_len 0 n)) (Ok tt)) all c.loop-thread.invariant.plays

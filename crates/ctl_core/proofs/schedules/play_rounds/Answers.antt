@@ -47,4 +47,4 @@ returns-clause-plays g c =
     let plan = plan_in c.args.core.now in
     let round = map (λ t. Step t) (threads_from plan 0) in
     let all : c.loop-round._round ≡ c.args.count = omega (arith, c.loop-round-test.false, c.loop-round.auto) in
-    subst (λ (n : ℕ). Plays {E = SinkFailed} g.S.Sink.stands g.S.Sink.faults plan (moment_in c.args.core.now) (moment_in c.loop-round.core) (repeated n round []) c.args.out.now c.loop-round.out (Ok tt)) all c.loop-round.invariant.plays
+    subst (λ (n : ℕ). Plays {E = SinkFailed} g.S.Sink.stands g.S.Sink.faults plan (record { moment = moment_in c.args.core.now; sink = c.args.out.now }) (record { moment = moment_in c.loop-round.core; sink = c.loop-round.out }) (repeated n round []) (Ok tt)) all c.loop-round.invariant.plays
