@@ -32,7 +32,7 @@ use Rattle.tool_text.specs.Words.{Asked, SelectOf, PlayOf}
 use Rattle.tool_text.specs.Plays.{limits_of, setting_of, status_of, ScriptFailsAt}
 use Rattle.tool_text.proofs.Complete.{IsEnd, complete as ends_with}
 use Rattle.live_cli.specs.Able.{CanDoAll, CanBeDone, AreInTime}
-use Rattle.live_cli.specs.Texts.{FromRuns, KeptBy, AskedText, SessionText, TooManyAt, PlaysFor, PlaysScript}
+use Rattle.live_cli.specs.Texts.{Course, FromRuns, KeptBy, AskedText, SessionText, TooManyAt, PlaysFor, PlaysScript}
 use Rattle.live_cli.proofs.Able.{IsFine, IsInTime, all_done_in_time}
 
 fine_end : (answer : SessionAnswer) → IsFine answer → IsEnd (status_of answer)
@@ -64,7 +64,7 @@ module _ (patient : PatientIsDone) (one_verdict : VerdictIsOne) (in_time : InTim
       IsScript (limits_of machine) (holds script) stated →
       CanDoAll (setting_of machine stated) (opening_state (setting_of machine stated)) stated.commands holds →
       ((runs ≡ []) × ScriptFailsAt script machine behind files text status)
-      ⊎ PlaysScript false script machine behind runs files text status → IsEnd status
+      ⊎ PlaysScript false script machine (record { reads = behind; runs = runs }) files text status → IsEnd status
   script_ends script machine behind runs (Some k) text ReadFault stated held timely is can (inl fails) = inr refl
   script_ends script machine behind runs None text BadInput stated held timely is can (inl fails) =
       let refusal = fails.1 in
@@ -85,10 +85,10 @@ module _ (patient : PatientIsDone) (one_verdict : VerdictIsOne) (in_time : InTim
       (subst (AreHeld holds) plays.plays.all (held_tail holds read plays.behind all)) plays.plays.steps plays.plays.held
       timely plays.plays.is_answer plays.is_status
 
-  module _ (most : ℕ) (reads : List Read) (held : AreHeld holds reads) (topology script : List ℕ)
+  module _ (most : ℕ) (course : Course) (held : AreHeld holds course.reads) (topology script : List ℕ)
       (can : CanBeDone most (PlayOf topology script) holds) where
     -- the machine of the topology that was read
-    machine_is : (machine : Machine) (bytes : List ℕ) (behind : List Read) → reads ≡ record { name = topology; bytes = bytes } ∷ behind →
+    machine_is : (machine : Machine) (bytes : List ℕ) (behind : List Read) → course.reads ≡ record { name = topology; bytes = bytes } ∷ behind →
         IsMachine bytes machine → can.0 ≡ machine
     machine_is machine bytes behind first is =
         let gave : bytes ≡ holds topology =
@@ -96,7 +96,7 @@ module _ (patient : PatientIsDone) (one_verdict : VerdictIsOne) (in_time : InTim
         one_machine (holds topology) can.0 machine can.1.states
         (subst (λ (bytes : List ℕ). topology_texts.States bytes machine) gave is.states)
 
-    too_many_ends : (files : Option ℕ) (text : List ℕ) (status : Status) → TooManyAt most topology reads files text status → IsEnd status
+    too_many_ends : (files : Option ℕ) (text : List ℕ) (status : Status) → TooManyAt most topology course.reads files text status → IsEnd status
     too_many_ends None text BadInput is =
         let same = machine_is is.machine is.states.bytes [] is.states.first is.states.is_machine in
         let few : length is.machine.stated.threads ≤ most =
@@ -104,32 +104,32 @@ module _ (patient : PatientIsDone) (one_verdict : VerdictIsOne) (in_time : InTim
         absurd (omega (arith, few, is.many))
     too_many_ends files text status is = absurd is
 
-    played_ends : (runs : List RunOf) (files : Option ℕ) (text : List ℕ) (status : Status) → All IsInTime runs →
-        PlaysFor false most topology script reads runs files text status → IsEnd status
-    played_ends runs files text status timely plays =
+    played_ends : (files : Option ℕ) (text : List ℕ) (status : Status) → All IsInTime course.runs →
+        PlaysFor (record { lists = false; most = most }) topology script course files text status → IsEnd status
+    played_ends files text status timely plays =
         let read : Read = record { name = topology; bytes = plays.states.bytes } in
         let all : AreHeld holds (read ∷ plays.behind) = subst (AreHeld holds) plays.states.first held in
         let same = machine_is plays.machine plays.states.bytes plays.behind plays.states.first plays.states.is_machine in
         let stated : Stated = can.3.0 in
-        script_ends script plays.machine plays.behind runs files text status stated (held_tail holds read plays.behind all) timely
+        script_ends script plays.machine plays.behind course.runs files text status stated (held_tail holds read plays.behind all) timely
         (subst (λ (machine : Machine). IsScript (limits_of machine) (holds script) stated) same can.3.1)
         (subst (λ (machine : Machine). CanDoAll (setting_of machine stated) (opening_state (setting_of machine stated)) stated.commands holds) same can.3.2)
         plays.played
 
-    session_ends : (runs : List RunOf) (files : Option ℕ) (text : List ℕ) (status : Status) → All IsInTime runs →
-        SessionText false most topology script reads runs files text status → IsEnd status
-    session_ends runs files text status timely (inl fails) =
-        ends_with patient one_verdict holds reads held (SelectOf topology []) files text status (can.0, can.1, ([], tt))
+    session_ends : (files : Option ℕ) (text : List ℕ) (status : Status) → All IsInTime course.runs →
+        SessionText (record { lists = false; most = most }) topology script course files text status → IsEnd status
+    session_ends files text status timely (inl fails) =
+        ends_with patient one_verdict holds course.reads held (SelectOf topology []) files text status (can.0, can.1, ([], tt))
         (inl fails.1)
-    session_ends runs files text status timely (inr (inl many)) = too_many_ends files text status many.1
-    session_ends runs files text status timely (inr (inr plays)) = played_ends runs files text status timely plays
+    session_ends files text status timely (inr (inl many)) = too_many_ends files text status many.1
+    session_ends files text status timely (inr (inr plays)) = played_ends files text status timely plays
 
-  asked_ends : (most : ℕ) (line : Asked) (reads : List Read) (runs : List RunOf) (files : Option ℕ) (text : List ℕ) (status : Status)
-      → AreHeld holds reads → CanBeDone most line holds → All IsInTime runs →
-      AskedText false most line reads runs files text status → IsEnd status
-  asked_ends most (PlayOf topology script) reads runs files text status held can timely is =
-      session_ends most reads held topology script can runs files text status timely is
-  asked_ends most line reads runs files text status held can timely is = absurd can
+  asked_ends : (most : ℕ) (line : Asked) (course : Course) (files : Option ℕ) (text : List ℕ) (status : Status)
+      → AreHeld holds course.reads → CanBeDone most line holds → All IsInTime course.runs →
+      AskedText (record { lists = false; most = most }) line course files text status → IsEnd status
+  asked_ends most (PlayOf topology script) course files text status held can timely is =
+      session_ends most course held topology script can files text status timely is
+  asked_ends most line course files text status held can timely is = absurd can
 
   -- ---- what a run ended with
 
@@ -144,16 +144,16 @@ module _ (patient : PatientIsDone) (one_verdict : VerdictIsOne) (in_time : InTim
       (can : CanBeDone most line holds) (before now : List RunOf) (timely : AreInTime before now) where
     -- a whole text of files that tell is that of a run that did all, or of one in which a read failed
     told_end : (files : Option ℕ) (text : List ℕ) (status : Status) →
-        FromRuns tells holds (λ runs. lists ≡ false → Grown before now runs) (AskedText lists most line) files text status →
+        FromRuns tells holds (λ runs. lists ≡ false → Grown before now runs) (AskedText (record { lists = lists; most = most }) line) files text status →
         IsEnd status
     told_end files text status is =
-        asked_ends most line is.reads is.runs files text status (is.held tell) can
-        (timely_runs before now is.runs timely (is.is_kept silent))
-        (subst (λ (l : Bool). AskedText l most line is.reads is.runs files text status) silent is.is_text)
+        asked_ends most line is.course files text status (is.held tell) can
+        (timely_runs before now is.course.runs timely (is.is_kept silent))
+        (subst (λ (l : Bool). AskedText (record { lists = l; most = most }) line is.course files text status) silent is.is_text)
 
     -- what can be done is done, where no count of faults rose and memory is there
     pub done_or_memory : {D : Type 0} (stands : D → List ℕ → Type 0) (old new : D) (rose : Type 0) (read wrote : ℕ × ℕ) (status : Status)
-        → Written (FromRuns tells holds (KeptBy lists before now status) (AskedText lists most line)) rose stands old new status
+        → Written (FromRuns tells holds (KeptBy lists before now status) (AskedText (record { lists = lists; most = most }) line)) rose stands old new status
         → ReadCause read.0 read.1 status → WriteCause wrote.0 wrote.1 status → (Rose read.0 read.1 → ⊥) → (Rose wrote.0 wrote.1 → ⊥)
         → (status ≡ statuses.Done) ⊎ (status ≡ statuses.NoMemory)
     done_or_memory stands old new rose read wrote statuses.Done written rc wc no_read no_write = inl refl

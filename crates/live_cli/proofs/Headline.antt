@@ -1,9 +1,8 @@
 -- What holds of the session that a text is of; and what was written is of texts of which this holds.
-use Rattle.std.proofs.Common.{ℕ, Bool, List, Option}
+use Rattle.std.proofs.Common.{ℕ, List, Option}
 use Rattle.uc_topology.proofs.Partition.{partition}
 use Rattle.top_call.specs.declared.status.Status.{Status}
 use Rattle.top_call.specs.Written.{Written}
-use Rattle.file_reads.specs.Reads.{Read}
 use Rattle.rendezvous_rule.specs.Runs.{RunOf}
 use Rattle.script_text.proofs.Kept.{within}
 use Rattle.tool_text.specs.Words.{Asked, Faulty, ListOf, ShowOf, SelectOf, PlayOf, GenOf}
@@ -12,44 +11,43 @@ use Rattle.tool_text.proofs.Sessions.{Laws, session_holds}
 use Rattle.tool_text.proofs.SomePlay.{all_in_range}
 use Rattle.uc_cli.proofs.Headline.{written_as}
 use Rattle.live_cli.specs.Headline.{HoldingText, TextsHold}
-use Rattle.live_cli.specs.Texts.{AskedText, FromRuns}
+use Rattle.live_cli.specs.Texts.{Rendezvous, Course, AskedText, FromRuns}
 
 pub texts_hold : Laws → TextsHold
-texts_hold laws lists most (Faulty i) reads runs files text status = tt
-texts_hold laws lists most (ListOf names) reads runs files text status = tt
-texts_hold laws lists most (ShowOf name number) reads runs files text status = tt
-texts_hold laws lists most (SelectOf topology names) reads runs files text status = tt
-texts_hold laws lists most (GenOf number) reads runs files text status = tt
-texts_hold laws lists most (PlayOf topology script) reads runs files text status = λ few plays.
+texts_hold laws rendezvous (Faulty i) course files text status = tt
+texts_hold laws rendezvous (ListOf names) course files text status = tt
+texts_hold laws rendezvous (ShowOf name number) course files text status = tt
+texts_hold laws rendezvous (SelectOf topology names) course files text status = tt
+texts_hold laws rendezvous (GenOf number) course files text status = tt
+texts_hold laws rendezvous (PlayOf topology script) course files text status = λ few plays.
     let limits = limits_of few.machine in
-    session_holds laws lists (setting_of few.machine plays.stated)
+    session_holds laws rendezvous.lists (setting_of few.machine plays.stated)
     (partition few.states.bytes few.machine few.states.is_machine.states) plays.stated.commands plays.plays.dids
     (all_in_range few.machine plays.stated (within limits plays.bytes plays.stated plays.is_script.states))
     plays.plays.steps
 
 module _ (tells : Type 0) (holds : List ℕ → List ℕ) (kept : List RunOf → Type 0) where
-  runs_as : (texts others : List Read → List RunOf → Option ℕ → List ℕ → Status → Type 0) →
-      ((reads : List Read) (runs : List RunOf) (files : Option ℕ) (text : List ℕ) (status : Status) →
-      texts reads runs files text status → others reads runs files text status) →
+  runs_as : (texts others : Course → Option ℕ → List ℕ → Status → Type 0) →
+      ((course : Course) (files : Option ℕ) (text : List ℕ) (status : Status) →
+      texts course files text status → others course files text status) →
       (files : Option ℕ) (text : List ℕ) (status : Status) → FromRuns tells holds kept texts files text status →
       FromRuns tells holds kept others files text status
   runs_as texts others each files text status is = record {
-    reads = is.reads;
+    course = is.course;
     held = is.held;
-    runs = is.runs;
     is_kept = is.is_kept;
-    is_text = each is.reads is.runs files text status is.is_text;
+    is_text = each is.course files text status is.is_text;
   }
 
 -- texts of which the headline holds
 pub holding : TextsHold → {D : Type 0} (tells : Type 0) (holds : List ℕ → List ℕ) (kept : List RunOf → Type 0)
-    (rose : Type 0) (stands : D → List ℕ → Type 0) (old new : D) (lists : Bool) (most : ℕ) (line : Asked)
+    (rose : Type 0) (stands : D → List ℕ → Type 0) (old new : D) (rendezvous : Rendezvous) (line : Asked)
     (status : Status) →
-    Written (FromRuns tells holds kept (AskedText lists most line)) rose stands old new status →
-    Written (FromRuns tells holds kept (HoldingText lists most line)) rose stands old new status
-holding law tells holds kept rose stands old new lists most line status written =
-    written_as (FromRuns tells holds kept (AskedText lists most line))
-    (FromRuns tells holds kept (HoldingText lists most line)) rose stands old new
-    (runs_as tells holds kept (AskedText lists most line) (HoldingText lists most line)
-    (λ reads runs files text status is.
-    record { is_text = is; headline = law lists most line reads runs files text status })) status written
+    Written (FromRuns tells holds kept (AskedText rendezvous line)) rose stands old new status →
+    Written (FromRuns tells holds kept (HoldingText rendezvous line)) rose stands old new status
+holding law tells holds kept rose stands old new rendezvous line status written =
+    written_as (FromRuns tells holds kept (AskedText rendezvous line))
+    (FromRuns tells holds kept (HoldingText rendezvous line)) rose stands old new
+    (runs_as tells holds kept (AskedText rendezvous line) (HoldingText rendezvous line)
+    (λ course files text status is.
+    record { is_text = is; headline = law rendezvous line course files text status })) status written

@@ -31,7 +31,7 @@ use Rattle.uc_cli.specs.Refusal as refusals
 use Rattle.uc_cli.specs.Refusal.{line_of}
 use Rattle.uc_cli.specs.declared.refusal.Refusal.{Refusal}
 use Rattle.uc_cli.specs.declared.refusal.Refusal.TheVariants.{Unread, BadFile, BadTopology, BadScript, NoEntry, NoMemory}
-use Rattle.live_cli.specs.Texts.{FromRuns, KeptBy, SessionText, AskedText}
+use Rattle.live_cli.specs.Texts.{Course, FromRuns, KeptBy, SessionText, AskedText}
 use Rattle.live_cli.proofs.Ended.{goes, is_some_unread, no_file}
 use Rattle.live_cli.proofs.SomeText.{AnyRuns}
 
@@ -56,7 +56,7 @@ none_held lists before = λ silent. sym (append-nil before)
 
 -- ---- a run whose last lines were written
 
-module _ {D : Type 0} (tells : Type 0) (holds : List ℕ → List ℕ) (texts : List Read → List RunOf → Option ℕ → List ℕ → Status → Type 0)
+module _ {D : Type 0} (tells : Type 0) (holds : List ℕ → List ℕ) (texts : Course → Option ℕ → List ℕ → Status → Type 0)
     (lists : Bool) (before now : List RunOf) (rose : Type 0) (stands : D → List ℕ → Type 0) (faults : D → ℕ) (old new : D) where
   -- what a run wrote, with what is kept of its runs
   abbrev pub WrittenBy : Status → Type 0
@@ -66,7 +66,7 @@ module _ {D : Type 0} (tells : Type 0) (holds : List ℕ → List ℕ) (texts : 
   Whole = FromRuns tells holds (Grown lists before now) texts
 
   forget : (files : Option ℕ) (text : List ℕ) (status : Status) → Whole files text status → FromRuns tells holds AnyRuns texts files text status
-  forget files text status is = record { reads = is.reads; held = is.held; runs = is.runs; is_kept = tt; is_text = is.is_text }
+  forget files text status is = record { course = is.course; held = is.held; is_kept = tt; is_text = is.is_text }
 
   -- a whole text is what a run that came to its end wrote
   written_whole : (status : Status) → RanToItsEnd status → WroteText Whole stands old new status → WrittenBy status
@@ -103,7 +103,7 @@ module _ {D : Type 0} (tells : Type 0) (holds : List ℕ → List ℕ) (texts : 
         files = None;
         text = has.text;
         status = has.status;
-        is_text = record { reads = has.is_text.reads; held = λ told. has.is_text.held tt; runs = has.is_text.runs; is_kept = tt; is_text = has.is_text.is_text };
+        is_text = record { course = has.is_text.course; held = λ told. has.is_text.held tt; is_kept = tt; is_text = has.is_text.is_text };
         goes = has.goes;
         by_fault = λ some. no_file some;
         is_front = (has.text, refl);
@@ -118,10 +118,10 @@ module _ {D : Type 0} (tells : Type 0) (holds : List ℕ → List ℕ) (texts : 
 -- ---- a command line that breaks the rule
 
 pub faulty_written : {D : Type 0} (tells : Type 0) (holds : List ℕ → List ℕ) (lists : Bool) (most : ℕ) (before : List RunOf) (rose : Type 0) (stands : D → List ℕ → Type 0) (faults : D → ℕ) (old new : D) (index : ℕ) (status : Status)
-    → Ends stands faults old new (usage_line index) (statuses.Usage index) status → WrittenBy tells holds (AskedText lists most (Faulty index)) lists before before rose stands faults old new status
+    → Ends stands faults old new (usage_line index) (statuses.Usage index) status → WrittenBy tells holds (AskedText (record { lists = lists; most = most }) (Faulty index)) lists before before rose stands faults old new status
 faulty_written tells holds lists most before rose stands faults old new index status ends =
-    ends_written tells holds (AskedText lists most (Faulty index)) lists before before rose stands faults old new None (usage_line index) (statuses.Usage index) status tt
-    (record { reads = []; held = λ told. held_nil holds; runs = []; is_kept = none_held lists before; is_text = (refl, refl, refl, refl) })
+    ends_written tells holds (AskedText (record { lists = lists; most = most }) (Faulty index)) lists before before rose stands faults old new None (usage_line index) (statuses.Usage index) status tt
+    (record { course = record { reads = []; runs = [] }; held = λ told. held_nil holds; is_kept = none_held lists before; is_text = (refl, refl, refl, refl) })
     tt
     no_file
     ends
@@ -129,8 +129,8 @@ faulty_written tells holds lists most before rose stands faults old new index st
 -- ---- a session
 
 module _ (tells : Type 0) (holds : List ℕ → List ℕ) (lists : Bool) (most : ℕ) (topology script : List ℕ) where
-  abbrev Texts : List Read → List RunOf → Option ℕ → List ℕ → Status → Type 0
-  Texts = SessionText lists most topology script
+  abbrev Texts : Course → Option ℕ → List ℕ → Status → Type 0
+  Texts = SessionText (record { lists = lists; most = most }) topology script
 
   -- the text of what the commands did
   text_of : (kept : List RunOf → Type 0) (machine : Machine) (stated : Stated) → Opened tells holds most topology script machine stated → (dids : List Did) → Steps lists (setting_of machine stated) stated.commands dids
@@ -140,9 +140,8 @@ module _ (tells : Type 0) (holds : List ℕ → List ℕ) (lists : Bool) (most :
       let first : Read = record { name = topology; bytes = opened.topology_bytes } in
       let second : Read = record { name = script; bytes = opened.script_bytes } in
       record {
-        reads = first ∷ second ∷ all_reads dids;
+        course = record { reads = first ∷ second ∷ all_reads dids; runs = all_runs dids };
         held = λ tell. held_cons holds first (second ∷ all_reads dids) (opened.topology_held tell) (held_cons holds second (all_reads dids) (opened.script_held tell) (held tell));
-        runs = all_runs dids;
         is_kept = is_kept;
         is_text = inr
             (inr
@@ -262,7 +261,7 @@ module _ (tells : Type 0) (holds : List ℕ → List ℕ) (lists : Bool) (most :
     pub topology_refused : (now : ℕ) (refusal : Refusal) (status : Status) → IsTopologyRead tells topology (holds topology) first now (Err refusal) → Ends stands faults old new (line_of refusal) (refusals.status_of refusal) status → WithNone now status
     topology_refused now (Unread name) status read ends =
         ends_so now (Some 0) (unread_line name.now) statuses.ReadFault status tt
-        (record { reads = []; held = λ tell. held_nil holds; runs = []; is_kept = none_held lists runs; is_text = inl (refl, (refl, refl, ap unread_line read.1)) })
+        (record { course = record { reads = []; runs = [] }; held = λ tell. held_nil holds; is_kept = none_held lists runs; is_text = inl (refl, (refl, refl, ap unread_line read.1)) })
         tt
         (λ some. read.0)
         ends
@@ -271,9 +270,8 @@ module _ (tells : Type 0) (holds : List ℕ → List ℕ) (lists : Bool) (most :
         let one : Read = record { name = topology; bytes = read.1.0 } in
         ends_so now None (topology_line fault.line fault.cause) statuses.BadInput status tt
         (record {
-          reads = one ∷ [];
+          course = record { reads = one ∷ []; runs = [] };
           held = λ tell. held_one holds one (read.1.1 tell);
-          runs = [];
           is_kept = none_held lists runs;
           is_text = inl (refl, record { bytes = read.1.0; only = refl; line = fault.line; cause = fault.cause; refuses = read.1.2; lines = refl });
         })
@@ -294,9 +292,8 @@ module _ (tells : Type 0) (holds : List ℕ → List ℕ) (lists : Bool) (most :
       too_many_written now status many ends =
           ends_so now None (topology_line 0 LiveLimit) statuses.BadInput status tt
           (record {
-            reads = topology_read ∷ [];
+            course = record { reads = topology_read ∷ []; runs = [] };
             held = λ tell. held_one holds topology_read (is_held tell);
-            runs = [];
             is_kept = none_held lists runs;
             is_text = inr
                 (inl (refl, record { machine = machine; states = record { bytes = bytes; first = refl; is_machine = is_machine }; many = many; lines = refl }));
@@ -312,9 +309,8 @@ module _ (tells : Type 0) (holds : List ℕ → List ℕ) (lists : Bool) (most :
         script_refused (Unread which) status read ends =
             ends_so now (Some 1) (unread_line which.now) statuses.ReadFault status tt
             (record {
-              reads = topology_read ∷ [];
+              course = record { reads = topology_read ∷ []; runs = [] };
               held = λ tell. held_one holds topology_read (is_held tell);
-              runs = [];
               is_kept = none_held lists runs;
               is_text = inr
                   (inr
@@ -335,10 +331,9 @@ module _ (tells : Type 0) (holds : List ℕ → List ℕ) (lists : Bool) (most :
             let second : Read = record { name = script; bytes = read.1.0 } in
             ends_so now None (script_line fault.line fault.cause) statuses.BadInput status tt
             (record {
-              reads = topology_read ∷ second ∷ [];
+              course = record { reads = topology_read ∷ second ∷ []; runs = [] };
               held = λ tell.
                   held_cons holds topology_read (second ∷ []) (is_held tell) (held_one holds second (read.1.1 (still tell) ∙ ap (λ (h : List ℕ → List ℕ). h script) same));
-              runs = [];
               is_kept = none_held lists runs;
               is_text = inr
                   (inr

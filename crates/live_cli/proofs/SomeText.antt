@@ -41,7 +41,7 @@ AnyRuns runs = Unit {0}
 module _ (sessions : SessionsExist) (lists : Bool) (always : AlwaysRuns item_line lists) (most : ℕ)
     (topology script : List ℕ) (holds : List ℕ → List ℕ) where
   abbrev Texts : Option ℕ → List ℕ → Status → Type 0
-  Texts = FromRuns (Unit {0}) holds AnyRuns (SessionText lists most topology script)
+  Texts = FromRuns (Unit {0}) holds AnyRuns (SessionText (record { lists = lists; most = most }) topology script)
 
   abbrev read_of : List ℕ → Read
   read_of name = record { name = name; bytes = holds name }
@@ -58,10 +58,9 @@ module _ (sessions : SessionsExist) (lists : Bool) (always : AlwaysRuns item_lin
         text = texts_from 1 stated.commands some.dids;
         status = status_of answer;
         is_text = record {
-          reads = read_of topology ∷ read_of script ∷ all_reads some.dids;
+          course = record { reads = read_of topology ∷ read_of script ∷ all_reads some.dids; runs = all_runs some.dids };
           held = λ told. held_cons holds (read_of topology) (read_of script ∷ all_reads some.dids) refl
               (held_cons holds (read_of script) (all_reads some.dids) refl some.held);
-          runs = all_runs some.dids;
           is_kept = tt;
           is_text = inr (inr (record {
             machine = machine;
@@ -92,10 +91,9 @@ module _ (sessions : SessionsExist) (lists : Bool) (always : AlwaysRuns item_lin
     text = script_line line cause;
     status = BadInput;
     is_text = record {
-      reads = read_of topology ∷ read_of script ∷ [];
+      course = record { reads = read_of topology ∷ read_of script ∷ []; runs = [] };
       held = λ told. held_cons holds (read_of topology) (read_of script ∷ []) refl (held_one holds (read_of script)
           refl);
-      runs = [];
       is_kept = tt;
       is_text = inr (inr (record {
         machine = machine;
@@ -123,9 +121,8 @@ module _ (sessions : SessionsExist) (lists : Bool) (always : AlwaysRuns item_lin
     text = topology_line line cause;
     status = BadInput;
     is_text = record {
-      reads = read_of topology ∷ [];
+      course = record { reads = read_of topology ∷ []; runs = [] };
       held = λ told. held_one holds (read_of topology) refl;
-      runs = [];
       is_kept = tt;
       is_text = inl (
         refl,
@@ -148,9 +145,8 @@ module _ (sessions : SessionsExist) (lists : Bool) (always : AlwaysRuns item_lin
     text = topology_line 0 topo.LiveLimit;
     status = BadInput;
     is_text = record {
-      reads = read_of topology ∷ [];
+      course = record { reads = read_of topology ∷ []; runs = [] };
       held = λ told. held_one holds (read_of topology) refl;
-      runs = [];
       is_kept = tt;
       is_text = inr (inl (
         refl,

@@ -42,7 +42,7 @@ fn play_live<F: Files, S: Sink, R: Rendezvous>(
 ) -> Status
     ensures written { Written
         (FromRuns (F.tells files.old) (F.holds files.old) (KeptBy R.lists (R.runs how.old) (R.runs how.new) result)
-        (SessionText R.lists (R.limit how.old) topology.now script.now))
+        (SessionText (record { lists = R.lists; most = R.limit how.old }) topology.now script.now))
         (Rose (F.faults files.old) (F.faults files.new)) S.stands out.old out.new result }
     ensures usage { UsageCause (PlayOf topology.now script.now) result }
     ensures read_cause { ReadCause (F.faults files.old) (F.faults files.new) result }
@@ -101,11 +101,11 @@ pub fn run_live<F: Files, S: Sink, R: Rendezvous>(
 ) -> Status
     ensures written { Written
         (FromRuns (F.tells files.old) (F.holds files.old) (KeptBy R.lists (R.runs how.old) (R.runs how.new) result)
-        (LiveText R.lists (R.limit how.old) words.now))
+        (LiveText (record { lists = R.lists; most = R.limit how.old }) words.now))
         (Rose (F.faults files.old) (F.faults files.new)) S.stands out.old out.new result }
     ensures headline { Written
         (FromRuns (F.tells files.old) (F.holds files.old) (KeptBy R.lists (R.runs how.old) (R.runs how.new) result)
-        (HoldingText R.lists (R.limit how.old) (live_asked words.now)))
+        (HoldingText (record { lists = R.lists; most = R.limit how.old }) (live_asked words.now)))
         (Rose (F.faults files.old) (F.faults files.new)) S.stands out.old out.new result }
     ensures usage { UsageCause (live_asked words.now) result }
     ensures read_cause { ReadCause (F.faults files.old) (F.faults files.new) result }

@@ -43,12 +43,12 @@ returns-in-Err-clause-late_loads g c = late_loads
 pub returns-in-Ok-clause-headline : goal.returns-in-Ok-clause-headline
 returns-in-Ok-clause-headline g c =
     holding c.each_text_holds.ensures (g.F.Pieces.tells c.args.files.now) (g.F.Files.holds c.args.files.now) _ _
-    g.S.Sink.stands _ _ _ _ _ _ (returns-in-Ok-clause-written g c)
+    g.S.Sink.stands _ _ _ _ _ (returns-in-Ok-clause-written g c)
 
 pub returns-in-Err-clause-headline : goal.returns-in-Err-clause-headline
 returns-in-Err-clause-headline g c =
     holding c.each_text_holds.ensures (g.F.Pieces.tells c.args.files.now) (g.F.Files.holds c.args.files.now) _ _
-    g.S.Sink.stands _ _ _ _ _ _ (returns-in-Err-clause-written g c)
+    g.S.Sink.stands _ _ _ _ _ (returns-in-Err-clause-written g c)
 
 pub returns-in-Ok-clause-done : goal.returns-in-Ok-clause-done
 returns-in-Ok-clause-done g c = λ silent tell can timely no_read no_write.
