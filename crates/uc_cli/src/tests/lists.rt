@@ -227,29 +227,6 @@ fn want_of_memory_has_its_line_and_each_status_its_number(rt: HostRuntime) -> Re
 }
 
 #[test]
-fn entries_may_be_more_than_nine(rt: HostRuntime) -> Result<(), Fail> {
-    let alloc = rt.alloc();
-    let mut many = Vec::new(alloc);
-    for _ in 0..12 {
-        push_update(&mut many, &SMALL)?;
-    }
-    let mut files = sample_files(alloc)?;
-    files.put("many.bin", many.as_slice())?;
-    let mut out = MemSink::new(alloc, ROOM)?;
-    assert_eq!(rt;
-        run(alloc, "list many.bin", &mut files, &mut out)?,
-        Status::Done
-    );
-    assert!(rt; out.bytes().starts_with(b"file 0 many.bin intel 12\n"));
-    assert!(rt;
-        out.bytes().ends_with(
-            b"\n11 at 704 len 64 rev 0x000000f0 date 2023-07-11 sig 0x000906ea flags 0x00000002\n"
-        )
-    );
-    Ok(())
-}
-
-#[test]
 fn a_read_that_fails_behind_a_fault_is_named(rt: HostRuntime) -> Result<(), Fail> {
     let alloc = rt.alloc();
     let mut long = update(alloc, 0, 1, 2_048)?;
@@ -265,27 +242,5 @@ fn a_read_that_fails_behind_a_fault_is_named(rt: HostRuntime) -> Result<(), Fail
         assert_eq!(rt; status, Status::ReadFault, "{call}");
         assert_eq!(rt; out.bytes(), "error read f.bin\n".as_bytes(), "{call}");
     }
-    Ok(())
-}
-
-#[test]
-fn a_name_may_be_longer_than_a_line(rt: HostRuntime) -> Result<(), Fail> {
-    let alloc = rt.alloc();
-    let mut name = String::new(alloc);
-    for _ in 0..255 {
-        name.push_str("n")?;
-    }
-    let line = format!(in alloc; "list {name}")?;
-    let text = format!(in alloc; "error read {name}\n")?;
-    assert!(rt;
-        answers(
-            alloc,
-            "x",
-            b"",
-            line.as_str(),
-            Status::ReadFault,
-            text.as_str()
-        )?
-    );
     Ok(())
 }
