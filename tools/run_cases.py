@@ -8,12 +8,9 @@ signatures that differ in their high bits, cores that differ in one fact, a tabl
 and sessions that end with each answer. The status is compared, and how standard output begins and ends. The status is 0
 where all is as it should be, 1 where something is not, 2 for faulty words.
 """
-import argparse
-import os
 import struct
-import subprocess
-import sys
-import tempfile
+
+from run_faults import run
 
 INTEL, AMD = "ucode-topology 1\nvendor intel\n", "ucode-topology 1\nvendor amd\n"
 FITS = "sig 0x906ea flags 0x2"
@@ -130,38 +127,17 @@ def sessions():
         yield ["play", "t", "s"], files, status, "", end
 
 
-def fault_of(program, words, files, status, begin, end):
+def fault_of(ending, status, begin, end):
     """What is wrong with how a run ended, or None."""
-    with tempfile.TemporaryDirectory() as folder:
-        for name, data in files.items():
-            with open(os.path.join(folder, name), "wb") as file:
-                file.write(data)
-        done = subprocess.run([program, *words], cwd=folder, stdin=subprocess.DEVNULL, stdout=subprocess.PIPE,
-                              stderr=subprocess.DEVNULL, timeout=60)
-    if done.returncode != status:
-        return f"ends with status {done.returncode} and should with {status}"
-    if not done.stdout.startswith(begin.encode()):
-        return f"begins with {done.stdout[:200]!r} and should with {begin!r}"
-    if not done.stdout.endswith(end.encode()):
-        return f"ends with {done.stdout[-400:]!r} and should with {end!r}"
+    found, written = ending
+    if found != status:
+        return f"ends with status {found} and should with {status}"
+    if not written.startswith(begin.encode()):
+        return f"begins with {written[:200]!r} and should with {begin!r}"
+    if not written.endswith(end.encode()):
+        return f"ends with {written[-400:]!r} and should with {end!r}"
     return None
 
 
-def main():
-    parser = argparse.ArgumentParser(description="Runs a built `ucode` on cases between neighbours, and compares.")
-    parser.add_argument("program", metavar="PATH", help="the built program")
-    program = os.path.abspath(parser.parse_args().program)
-    faults = runs = 0
-    for cases in (lists, selections, sessions):
-        for number, (words, *wanted) in enumerate(cases()):
-            runs += 1
-            fault = fault_of(program, words, *wanted)
-            if fault:
-                faults += 1
-                print(f"{cases.__name__} {number}, {words}: {fault}", file=sys.stderr)
-    print(f"cases: {runs - faults} of {runs} runs as they should be")
-    sys.exit(1 if faults else 0)
-
-
 if __name__ == "__main__":
-    main()
+    run("cases", "Runs a built `ucode` on cases between neighbours, and compares.", (lists, selections, sessions), fault_of)

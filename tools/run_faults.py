@@ -178,38 +178,46 @@ def limit_cases():
     yield ["gen", "18446744073709551616"], files, 1, b"usage 1\n"
 
 
-def fault_of(program, words, files, status, text):
-    """What is wrong with how a run ended, or None."""
+def ended(program, words, files):
+    """How a run in a folder with these files ended: its status, and what it wrote."""
     with tempfile.TemporaryDirectory() as folder:
         for name, data in files.items():
             with open(os.path.join(folder, name), "wb") as file:
                 file.write(data)
         done = subprocess.run([program, *words], cwd=folder, stdin=subprocess.DEVNULL, stdout=subprocess.PIPE,
                               stderr=subprocess.DEVNULL, timeout=60)
-    if status is not None and done.returncode != status:
-        return f"ends with status {done.returncode} and should with {status}"
-    if text is not None and done.stdout != text:
-        return f"writes {done.stdout[:200]!r} and should write {text!r}"
-    if text is None and done.stdout.startswith(b"error "):
-        return f"writes {done.stdout[:200]!r} and should refuse nothing"
+    return done.returncode, done.stdout
+
+
+def fault_of(ending, status, text):
+    """What is wrong with how a run ended, or None."""
+    found, written = ending
+    if status is not None and found != status:
+        return f"ends with status {found} and should with {status}"
+    if text is not None and written != text:
+        return f"writes {written[:200]!r} and should write {text!r}"
+    if text is None and written.startswith(b"error "):
+        return f"writes {written[:200]!r} and should refuse nothing"
     return None
 
 
-def main():
-    parser = argparse.ArgumentParser(description="Runs a built `ucode` on files that fail each check, and compares.")
+def run(name, description, groups, fault_of):
+    """Runs the cases of all groups with the program of the command line, tells which are not as they should be, and ends."""
+    parser = argparse.ArgumentParser(description=description)
     parser.add_argument("program", metavar="PATH", help="the built program")
     program = os.path.abspath(parser.parse_args().program)
     faults = runs = 0
-    for cases in (file_cases, text_cases, limit_cases):
-        for number, (words, files, status, text) in enumerate(cases()):
+    for cases in groups:
+        for number, (words, files, *wanted) in enumerate(cases()):
             runs += 1
-            fault = fault_of(program, words, files, status, text)
+            fault = fault_of(ended(program, words, files), *wanted)
             if fault:
                 faults += 1
                 print(f"{cases.__name__} {number}, {words}: {fault}", file=sys.stderr)
-    print(f"faults: {runs - faults} of {runs} runs as they should be")
+    print(f"{name}: {runs - faults} of {runs} runs as they should be")
     sys.exit(1 if faults else 0)
 
 
 if __name__ == "__main__":
-    main()
+    run("faults", "Runs a built `ucode` on files that fail each check, and compares.",
+        (file_cases, text_cases, limit_cases), fault_of)
