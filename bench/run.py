@@ -14,7 +14,7 @@ RUNS = 15
 MIB = 2**20
 HEADER = struct.Struct("<12I")
 UPDATE_ROW, PATCH_ROW = 36, 20  # what a catalogue keeps of an update and of a patch, in bytes
-TABLE_ROW = 8 + 12 + 4  # and of a row of an AMD table of a signature of its own: as it came, and in the table's index
+TABLE_ROW = 8 + 12 + 12  # and of a row of an AMD table of a signature of its own: as it came, and in the table's index
 FEW = "the rows' size and at most 2 MiB"
 
 

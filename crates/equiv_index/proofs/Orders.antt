@@ -2,13 +2,13 @@
 use Rattle.std.proofs.Common.{◌≡◌, ℕ, zero, suc, ◌+◌, ◌<◌, ◌≤◌, Bool, true, false, List, [], ◌∷◌, ◌++◌, Option, length, get_or, take, map, refl, sym, ◌∙◌, ap, arith}
 use Rattle.std.specs.Prelude.{All, sum_by, filter, slice_get, ◌==◌, if◌then◌else◌}
 use Rattle.std.specs.List.Sorted.{IsPermutation, IsSortedBy}
-use Rattle.std.proofs.lemmas.List.{get_or-map, length-map, map-append, take_all}
+use Rattle.std.proofs.lemmas.List.{map-append, take_all}
 use Rattle.std.proofs.lemmas.List.Elements.{All-filter, All-same, All-weaker, filter_agree, filter_more}
 use Rattle.std.proofs.lemmas.List.Kept.{IsNonDecreasingBy-filter}
-use Rattle.std.proofs.lemmas.List.Sorted.{All-permutation, IsPermutation-map}
+use Rattle.std.proofs.lemmas.List.Sorted.{All-permutation}
 use Rattle.file_entries.specs.Entry.{first_rows}
 use Rattle.equiv_index.specs.declared.row.Row.{Row}
-use Rattle.equiv_index.specs.Rows.{numbered, is_first, is_numbered, row_at, rows_at, sigs_with, served_by}
+use Rattle.equiv_index.specs.Rows.{numbered, is_first, is_numbered, sigs_with, served_by}
 use Rattle.equiv_index.specs.Index.{IsBySig, IsById}
 use Rattle.equiv_index.proofs.Alike.{Alike, alike_filter, alike_moved, IsTold}
 use Rattle.equiv_index.proofs.Sorted.{having, is_below, rises_first, sorted_having}
@@ -83,57 +83,44 @@ first_of_all rows =
     ∙ first_upto rows (length rows) (omega arith)
     ∙ ap (λ (l : List Plain). first_rows l) (take_all (length rows) rows (omega arith))
 
--- a choice by what is behind places, or by the rows there
-chosen : {X Y : Type 0} (at : X → Y) (p : Y → Bool) (value : Y → ℕ) (xs : List X) → map (λ x. value (at x)) (filter (λ x. p (at x)) xs) ≡ map value (filter p (map at xs))
-chosen at p value [] = refl
-chosen at p value (x ∷ xs) =
-    let rest = chosen at p value xs in
-    elim (p (at x)) as (λ b. map (λ y. value (at y)) (if b then x ∷ filter (λ y. p (at y)) xs else filter (λ y. p (at y)) xs) ≡ map value (if b then at x ∷ filter p (map at xs) else filter p (map at xs)))
-    [ true ↦ ap (λ (l : List ℕ). value (at x) ∷ l) rest | false ↦ rest ]
+-- a choice among rows, or among what they are without their numbers
+chosen : (id : ℕ) (xs : List Row) → map sig_of_row (filter (λ (row : Row). row.id == id) xs) ≡ map (λ (row : Plain). row.0) (filter (λ (row : Plain). row.1 == id) (map pair_of xs))
+chosen id [] = refl
+chosen id (x ∷ xs) =
+    let rest = chosen id xs in
+    elim (x.id == id) as (λ b. map sig_of_row (if b then x ∷ filter (λ (row : Row). row.id == id) xs else filter (λ (row : Row). row.id == id) xs) ≡ map (λ (row : Plain). row.0) (if b then pair_of x ∷ filter (λ (row : Plain). row.1 == id) (map pair_of xs) else filter (λ (row : Plain). row.1 == id) (map pair_of xs)))
+    [ true ↦ ap (λ (l : List ℕ). x.sig ∷ l) rest | false ↦ rest ]
 
-module _ (rows : List Plain) (sorted : List Row) (firsts places : List ℕ) (is : IsBySig rows sorted) (told : rows_at sorted firsts ≡ filter (is_first sorted) sorted) (moved : IsPermutation firsts places)
-    (up : IsSortedBy (is_below (λ place. (row_at sorted place).id) (λ place. (row_at sorted place).number)) places) where
+module _ (rows : List Plain) (sorted firsts by_ids : List Row) (is : IsBySig rows sorted) (told : firsts ≡ filter (is_first sorted) sorted) (moved : IsPermutation firsts by_ids)
+    (up : IsSortedBy (is_below id_of_row number_of) by_ids) where
   abbrev table : List Row
   table = numbered 0 rows
 
-  moved_rows : IsPermutation (rows_at sorted firsts) (rows_at sorted places)
-  moved_rows = IsPermutation-map (row_at sorted) firsts places moved
-
-  rows_up : IsSortedBy (is_below id_of_row number_of) (rows_at sorted places)
-  rows_up = λ k d from within.
-      let inside : k + 1 < length places = omega (arith, within, length-map places (row_at sorted)) in
-      let here = get_or-map (row_at sorted) places k 0 d (omega arith) in
-      let next = get_or-map (row_at sorted) places (k + 1) 0 d inside in
-      ap (λ (r : Row). is_below id_of_row number_of r (get_or (rows_at sorted places) k d)) next
-      ∙ ap (λ (r : Row). is_below id_of_row number_of (row_at sorted (get_or places (k + 1) 0)) r) here
-      ∙ up k 0 from inside
-
-  same_rows : Alike (filter (is_first table) table) (rows_at sorted places)
+  same_rows : Alike (filter (is_first table) table) by_ids
   same_rows = λ f.
-      alike_moved (rows_at sorted firsts) (rows_at sorted places) moved_rows f
+      alike_moved firsts by_ids moved f
       ∙ ap (λ (l : List Row). sum_by f l) (told ∙ filter_agree (is_first sorted) (is_first table) (λ row. ap (λ (o : Option Row). is_numbered o row.number) (is.first row.sig)) sorted)
       ∙ alike_filter (is_first table) table sorted (alike_moved table sorted is.moved) f
 
-  places_told : All (Told rows) (rows_at sorted places)
-  places_told =
-      All-permutation (Told rows) (rows_at sorted firsts) (rows_at sorted places) moved_rows
-      (All-same (Told rows) (rows_at sorted firsts) (filter (is_first sorted) sorted) told (All-filter (is_first sorted) (Told rows) sorted (sorted_told rows sorted is.moved)))
+  all_told_by_id : All (Told rows) by_ids
+  all_told_by_id =
+      All-permutation (Told rows) firsts by_ids moved
+      (All-same (Told rows) firsts (filter (is_first sorted) sorted) told (All-filter (is_first sorted) (Told rows) sorted (sorted_told rows sorted is.moved)))
 
-  in_order : (id : ℕ) → having id_of_row id (rows_at sorted places) ≡ having id_of_row id (filter (is_first table) table)
+  in_order : (id : ℕ) → having id_of_row id by_ids ≡ having id_of_row id (filter (is_first table) table)
   in_order id =
-      sorted_having id_of_row number_of (row_of rows) id (filter (is_first table) table) (rows_at sorted places) same_rows
-      (IsNonDecreasingBy-filter number_of (is_first table) table (numbered_rises rows)) rows_up
-      (All-filter (is_first table) (Told rows) table (all_told rows)) places_told
+      sorted_having id_of_row number_of (row_of rows) id (filter (is_first table) table) by_ids same_rows
+      (IsNonDecreasingBy-filter number_of (is_first table) table (numbered_rises rows)) up
+      (All-filter (is_first table) (Told rows) table (all_told rows)) all_told_by_id
 
-  served : (id : ℕ) → sigs_with sorted places id ≡ served_by rows id
+  served : (id : ℕ) → sigs_with by_ids id ≡ served_by rows id
   served id =
-      chosen (row_at sorted) (λ (row : Row). row.id == id) (λ (row : Row). row.sig) places
-      ∙ ap (λ (l : List Row). map (λ (row : Row). row.sig) l) (in_order id)
-      ∙ chosen pair_of (λ (row : Plain). row.1 == id) (λ (row : Plain). row.0) (filter (is_first table) table)
+      ap (λ (l : List Row). map sig_of_row l) (in_order id)
+      ∙ chosen id (filter (is_first table) table)
       ∙ ap (λ (l : List Plain). map (λ (row : Plain). row.0) (filter (λ (row : Plain). row.1 == id) l)) (first_of_all rows)
 
-  pub by_id : IsById rows sorted places
+  pub by_id : IsById rows by_ids
   by_id = record {
-    rises = rises_first (λ place. (row_at sorted place).id) (λ place. (row_at sorted place).number) places up;
+    rises = rises_first id_of_row number_of by_ids up;
     same = served;
   }

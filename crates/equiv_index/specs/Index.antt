@@ -10,10 +10,10 @@ pub record IsBySig (rows : List (ℕ × ℕ)) (sorted : List Row) : Type 0 where
   pub rises : IsNonDecreasingBy (λ row. row.sig) sorted
   pub first : (sig : ℕ) → first_with sorted sig ≡ first_with (numbered 0 rows) sig
 
--- the rows at these places rise by id, and give the signatures that each id is for, in the order of the table
-pub record IsById (rows : List (ℕ × ℕ)) (sorted : List Row) (places : List ℕ) : Type 0 where
-  pub rises : IsNonDecreasingBy (λ place. (row_at sorted place).id) places
-  pub same : (id : ℕ) → sigs_with sorted places id ≡ served_by rows id
+-- these rise by id, and give the signatures that each id is for, in the order of the table
+pub record IsById (rows : List (ℕ × ℕ)) (sorted : List Row) : Type 0 where
+  pub rises : IsNonDecreasingBy (λ row. row.id) sorted
+  pub same : (id : ℕ) → sigs_with sorted id ≡ served_by rows id
 
 -- no row of the same signature stands directly before this one
 abbrev pub BeginsRun : List Row → ℕ → Type 0

@@ -36,21 +36,13 @@ is_first rows row = is_numbered (first_with rows row.sig) row.number
 abbrev pub no_row : Row
 no_row = record { sig = 0; number = 0; id = 0 }
 
--- the row at a place, and those at some places
+-- the row at a place
 abbrev pub row_at : List Row → ℕ → Row
 row_at rows place = slice_index_or rows place no_row
 
-abbrev pub rows_at : List Row → List ℕ → List Row
-rows_at rows places = map (row_at rows) places
-
--- the signature of a row, where it has the id
-abbrev pub sig_if : Row → ℕ → Option ℕ
-sig_if row id = if row.id == id then Some row.sig else None
-
 -- the signatures of those that have an id
-abbrev pub sigs_with : List Row → List ℕ → ℕ → List ℕ
-sigs_with rows places id =
-    map (λ place. (row_at rows place).sig) (filter (λ place. (row_at rows place).id == id) places)
+abbrev pub sigs_with : List Row → ℕ → List ℕ
+sigs_with rows id = map (λ row. row.sig) (filter (λ row. row.id == id) rows)
 
 -- the signatures whose first row gives the id
 abbrev pub served_by : List (ℕ × ℕ) → ℕ → List ℕ

@@ -1,11 +1,11 @@
 ghost use Rattle.std.specs.Prelude.{◌≡◌, ◌≢◌, ℕ, ◌^◌, ◌<◌, ◌↔◌, IsTrue, AllPairs, length, filter, count_by, IfOk, slice_get};
 ghost use Rattle.std.specs.List.Sorted.{IsNonDecreasingBy};
 ghost use Rattle.amd_format.specs.Equiv.{id_of};
-ghost use Rattle.equiv_index.specs.Rows.{numbered, rows_in, rows_at, is_first, served_by};
+ghost use Rattle.equiv_index.specs.Rows.{numbered, rows_in, is_first, served_by};
 ghost use Rattle.equiv_index.specs.Index.{IsBySig, IsById, BeginsRun};
 
 use crate::row::Row;
-use crate::search::{first_with, id_at, nth_with, number_at};
+use crate::search::{first_with, nth_with};
 use std::alloc::{AllocError, Global};
 use std::marker::Model;
 use uc_bytes::NoMemory;
@@ -15,9 +15,8 @@ use uc_bytes::NoMemory;
 pub struct RowIndex {
     /// All rows, sorted by signature; those of one signature are in the order of the table.
     by_sig: Vec<Row>,
-    /// The places in `by_sig` of the first row of each signature, sorted by id; those of one id are in the order of the
-    /// table.
-    by_id: Vec<u32>,
+    /// The first row of each signature once more, sorted by id; those of one id are in the order of the table.
+    by_id: Vec<Row>,
 }
 
 impl Model for RowIndex {
@@ -39,7 +38,7 @@ impl RowIndex {
         ensures { IfOk result (λ index. index ≡ rows.now) }
     {
         let by_sig = rows_by_sig(alloc, rows)?;
-        let by_id = places_by_id(alloc, by_sig.as_slice())?;
+        let by_id = rows_by_id(alloc, by_sig.as_slice())?;
         Ok(RowIndex { by_sig, by_id })
     }
 
@@ -58,7 +57,7 @@ impl RowIndex {
         ensures value { result ≡ slice_get (served_by self.now id) k }
         ensures few { length (served_by self.now id) < 2 ^ 32 }
     {
-        nth_with(self.by_sig.as_slice(), self.by_id.as_slice(), id, k)
+        nth_with(self.by_id.as_slice(), id, k)
     }
 }
 
@@ -114,30 +113,30 @@ fn count_first(by_sig: &[Row]) -> usize
     count
 }
 
-/// The places of the rows that are the first of their signatures. Room is taken once, for just these.
-fn first_places(alloc: Global, by_sig: &[Row]) -> Result<Vec<u32>, AllocError>
+/// The rows that are the first of their signatures. Room is taken once, for just these.
+fn first_rows(alloc: Global, by_sig: &[Row]) -> Result<Vec<Row>, AllocError>
     requires few { length by_sig.now < 2 ^ 32 }
     requires sorted { IsNonDecreasingBy (λ row. row.sig) by_sig.now }
     requires apart { AllPairs (λ row other. row.number ≢ other.number) by_sig.now }
-    ensures { IfOk result (λ places. rows_at by_sig.now places.items ≡ filter (is_first by_sig.now) by_sig.now) }
+    ensures { IfOk result (λ firsts. firsts.items ≡ filter (is_first by_sig.now) by_sig.now) }
 {
-    let mut places = Vec::new(alloc);
-    places.reserve_exact(count_first(by_sig))?;
+    let mut firsts = Vec::new(alloc);
+    firsts.reserve_exact(count_first(by_sig))?;
     'rows: for at in 0..by_sig.len() {
         if begins_run(by_sig, at) {
-            places.push(at as u32)?;
+            firsts.push(by_sig[at])?;
         }
     }
-    Ok(places)
+    Ok(firsts)
 }
 
-/// These sorted by id, and those of one id by their rows' numbers.
-fn places_by_id(alloc: Global, by_sig: &[Row]) -> Result<Vec<u32>, AllocError>
+/// These sorted by id, and those of one id by their numbers.
+fn rows_by_id(alloc: Global, by_sig: &[Row]) -> Result<Vec<Row>, AllocError>
     requires few { length by_sig.now < 2 ^ 32 }
     requires order { IsBySig (rows_in by_sig.now) by_sig.now }
-    ensures { IfOk result (λ places. IsById (rows_in by_sig.now) by_sig.now places.items) }
+    ensures { IfOk result (λ sorted. IsById (rows_in by_sig.now) sorted.items) }
 {
-    let mut places = first_places(alloc, by_sig)?;
-    places.sort_unstable_by_key(|place| (id_at(by_sig, *place), number_at(by_sig, *place)));
-    Ok(places)
+    let mut firsts = first_rows(alloc, by_sig)?;
+    firsts.sort_unstable_by_key(|row| (row.id, row.number));
+    Ok(firsts)
 }

@@ -1,57 +1,47 @@
-use Rattle.std.proofs.Common.{◌≡◌, ℕ, ◌+◌, true, false, List, Option, Some, None, refl, sym, ap, ◌∙◌, arith, rules}
-use Rattle.std.specs.Prelude.{nat_lt, slice_get, ◌==◌, if◌then◌else◌}
+use Rattle.std.proofs.Common.{◌≡◌, ℕ, ◌+◌, ◌<◌, ◌≢◌, true, false, List, Option, length, get_or, map, refl, sym, ap, ◌∙◌, arith, rules}
+use Rattle.std.specs.Prelude.{nat_lt, slice_get}
 use Rattle.std.specs.List.Sorted.{IsNonDecreasingBy, IsPartitionPoint}
 use Rattle.std.specs.Option.{option_map}
 use Rattle.std.proofs.lemmas.Option.{slice_get-map}
 use Rattle.std.proofs.lemmas.Bool.Decides.{nat_tests}
 use Rattle.std.proofs.lemmas.List.Sorted.{IsPartitionedBy-ltb, IsPartitionPoint-from_clause}
 use Rattle.equiv_index.specs.declared.row.Row.{Row}
-use Rattle.equiv_index.specs.Rows.{row_at, sig_if, sigs_with}
-use Rattle.equiv_index.proofs.Sorted.{having, if_having, nth_having}
+use Rattle.equiv_index.specs.Rows.{no_row}
+use Rattle.equiv_index.proofs.Sorted.{having, if_having, nth_having, found_having, none_found}
 use Rattle.equiv_index.proofs.search.nth_with.Goals as goal
+use Rattle.equiv_index.proofs.search.nth_with.Goals.{else-at-rows-via-then-at-rows+else-rows-at, else-at-rows-via-else-at-rows}
 
-abbrev id_there : List Row → ℕ → ℕ
-id_there rows place = (row_at rows place).id
+abbrev id_of_row : Row → ℕ
+id_of_row row = row.id
 
-abbrev sig_there : List Row → ℕ → ℕ
-sig_there rows place = (row_at rows place).sig
-
--- what is said of a place, where its row has the id
-abbrev sig_at : List Row → ℕ → Option ℕ → Option ℕ
-sig_at rows id place = option_map (sig_there rows) (if_having (id_there rows) id place)
+abbrev sig_of_row : Row → ℕ
+sig_of_row row = row.sig
 
 -- the rows with the id begin at the place where the rows below it end
-from_place : (rows : List Row) (places : List ℕ) (id at k place : ℕ) → IsNonDecreasingBy (id_there rows) places
-    → IsPartitionPoint (λ (place : ℕ). nat_lt (row_at rows place).id id ≡ true) (λ (place : ℕ). nat_lt (row_at rows place).id id ≡ false) places at → place ≡ at + k
-    → slice_get (sigs_with rows places id) k ≡ sig_at rows id (slice_get places place)
-from_place rows places id at k place up point is =
-    slice_get-map (sig_there rows) (having (id_there rows) id places) k
-    ∙ ap (λ (o : Option ℕ). option_map (sig_there rows) o)
-    (nth_having (id_there rows) id places at k place up (λ j d before within. grind (arith, nat_tests, point.0 j d (omega arith) before)) (λ j d behind within. grind (arith, nat_tests, point.1 j d behind within)) is)
+from_place : (rows : List Row) (id at k place : ℕ) → IsNonDecreasingBy id_of_row rows → IsPartitionPoint (λ (row : Row). nat_lt row.id id ≡ true) (λ (row : Row). nat_lt row.id id ≡ false) rows at → place ≡ at + k
+    → slice_get (map sig_of_row (having id_of_row id rows)) k ≡ option_map sig_of_row (if_having id_of_row id (slice_get rows place))
+from_place rows id at k place up point is =
+    slice_get-map sig_of_row (having id_of_row id rows) k
+    ∙ ap (λ (o : Option Row). option_map sig_of_row o)
+    (nth_having id_of_row id rows at k place up (λ j d before within. grind (arith, nat_tests, point.0 j d (omega arith) before)) (λ j d behind within. grind (arith, nat_tests, point.1 j d behind within)) is)
 
-at_row : (rows : List Row) (id place : ℕ) → sig_if (row_at rows place) id ≡ sig_at rows id (Some place)
-at_row rows id place =
-    let row = row_at rows place in
-    elim (row.id == id) as (λ b. (if b then Some row.sig else None) ≡ option_map (sig_there rows) (if b then Some place else None))
-    [ true ↦ refl | false ↦ refl ]
-
-pub returns-in-Some : goal.returns-in-Some
-returns-in-Some c =
+pub returns-then-rows-at : goal.returns-then-rows-at
+returns-then-rows-at c =
     let rows = c.args.rows.now in
-    let places = c.args.places.now in
     let at = c.partition_point.result in
-    let point = IsPartitionPoint-from_clause (λ (place : ℕ). nat_lt (row_at rows place).id c.args.id) places at c.partition_point.ensures.partitioned (IsPartitionedBy-ltb (id_there rows) places c.args.id c.requires) (λ a r q k. search rules) in
-    c.sig_if.ensures
-    ∙ ap (λ (row : Row). sig_if row c.args.id) c.row_at.ensures
-    ∙ at_row rows c.args.id c.in-Some.place
-    ∙ ap (λ (o : Option ℕ). sig_at rows c.args.id o) c.in-Some.ensures
-    ∙ sym (from_place rows places c.args.id at c.args.k (at + c.args.k) c.requires point refl)
+    let point = IsPartitionPoint-from_clause (λ (row : Row). nat_lt row.id c.args.id) rows at c.partition_point.ensures.partitioned (IsPartitionedBy-ltb id_of_row rows c.args.id c.requires) (λ a r q k. search rules) in
+    sym (from_place rows c.args.id at c.args.k (at + c.args.k) c.requires point refl
+    ∙ ap (λ (o : Option Row). option_map sig_of_row o) (found_having id_of_row c.args.id rows (at + c.args.k) no_row (omega arith) c.if-rows-at.true))
 
-pub returns-in-None : goal.returns-in-None
-returns-in-None c =
+pub returns-else-at-rows : goal.returns-else-at-rows
+returns-else-at-rows c =
     let rows = c.args.rows.now in
-    let places = c.args.places.now in
     let at = c.partition_point.result in
-    let point = IsPartitionPoint-from_clause (λ (place : ℕ). nat_lt (row_at rows place).id c.args.id) places at c.partition_point.ensures.partitioned (IsPartitionedBy-ltb (id_there rows) places c.args.id c.requires) (λ a r q k. search rules) in
-    ap (λ (o : Option ℕ). sig_at rows c.args.id o) c.in-None.ensures
-    ∙ sym (from_place rows places c.args.id at c.args.k (at + c.args.k) c.requires point refl)
+    let point = IsPartitionPoint-from_clause (λ (row : Row). nat_lt row.id c.args.id) rows at c.partition_point.ensures.partitioned (IsPartitionedBy-ltb id_of_row rows c.args.id c.requires) (λ a r q k. search rules) in
+    let other : at + c.args.k < length rows → (get_or rows (at + c.args.k) no_row).id ≢ c.args.id =
+    elim c.else-at-rows.branch [
+      | else-at-rows-via-then-at-rows+else-rows-at w ↦ λ within. w.if-rows-at.false
+      | else-at-rows-via-else-at-rows w ↦ λ within. absurd (omega arith)
+    ] in
+    sym (from_place rows c.args.id at c.args.k (at + c.args.k) c.requires point refl
+    ∙ ap (λ (o : Option Row). option_map sig_of_row o) (none_found id_of_row c.args.id rows (at + c.args.k) no_row other))

@@ -5,13 +5,13 @@ use Rattle.equiv_index.specs.Index.{IsBySig, IsById}
 use Rattle.equiv_index.proofs.Numbers.{all_rows, many_sorted}
 use Rattle.equiv_index.proofs.index.RowIndex.new.Goals as goal
 
-pub places_by_id-requires-clause-few : goal.places_by_id-requires-clause-few
-places_by_id-requires-clause-few c =
+pub rows_by_id-requires-clause-few : goal.rows_by_id-requires-clause-few
+rows_by_id-requires-clause-few c =
     subst (λ (l : List Row). length l < 2 ^ 32) (sym c.as_slice.ensures.value)
     (omega (arith, c.requires, many_sorted c.args.rows.now c.in_ok-by_sig.by_sig.items c.in_ok-by_sig.ensures.moved))
 
-pub places_by_id-requires-clause-order : goal.places_by_id-requires-clause-order
-places_by_id-requires-clause-order c =
+pub rows_by_id-requires-clause-order : goal.rows_by_id-requires-clause-order
+rows_by_id-requires-clause-order c =
     let by_sig = c.in_ok-by_sig.by_sig.items in
     subst (λ (l : List Row). IsBySig (rows_in l) l) (sym c.as_slice.ensures.value)
     (subst (λ (rows : List (ℕ × ℕ)). IsBySig rows by_sig) (sym (all_rows c.args.rows.now by_sig c.in_ok-by_sig.ensures.moved)) c.in_ok-by_sig.ensures)
@@ -22,7 +22,7 @@ invariant_of-result c =
     let is = all_rows c.args.rows.now by_sig c.in_ok-by_sig.ensures.moved in
     record {
       by_sig = subst (λ (rows : List (ℕ × ℕ)). IsBySig rows by_sig) (sym is) c.in_ok-by_sig.ensures;
-      by_id = subst (λ (l : List Row). IsById (rows_in l) l c.in_ok-by_id.by_id.items) c.as_slice.ensures.value c.in_ok-by_id.ensures;
+      by_id = subst (λ (l : List Row). IsById (rows_in l) c.in_ok-by_id.by_id.items) c.as_slice.ensures.value c.in_ok-by_id.ensures;
       few = subst (λ (rows : List (ℕ × ℕ)). length rows < 2 ^ 32) (sym is) c.requires;
     }
 

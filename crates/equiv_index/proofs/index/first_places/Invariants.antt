@@ -1,7 +1,0 @@
-use Rattle.std.proofs.Common.{◌≡◌, take}
-use Rattle.std.specs.Prelude.{filter}
-use Rattle.equiv_index.specs.Rows.{is_first, rows_at}
-use Rattle.equiv_index.proofs.index.first_places.Given as goal
-
-abbrev pub invariant-rows : goal.invariant-rows
-invariant-rows l = rows_at l.by_sig l.places.items ≡ filter (is_first l.by_sig) (take l.at l.by_sig)
