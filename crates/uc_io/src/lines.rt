@@ -1,19 +1,18 @@
-ghost use Rattle.std.specs.Prelude.{◌≡◌, IfSome};
+ghost use Rattle.std.specs.Prelude.{◌≡◌, ◌++◌, IfSome};
 ghost use Rattle.std.specs.List.{flat_map};
 ghost use Rattle.uc_io.specs.Writing.{Writes};
 
 use crate::sinks::{Sink, SinkFailed};
 use arrayvec::ArrayVec;
 
-/// The pieces, one after another, where they fit the buffer.
-fn gathered(pieces: &[&[u8]]) -> Option<ArrayVec<u8, 256>>
-    ensures { IfSome result (λ line. line.items ≡ flat_map (λ piece. piece.now) pieces.now) }
+/// Puts the pieces behind what the line has, one after another, where they fit it.
+fn gather(line: &mut ArrayVec<u8, 256>, pieces: &[&[u8]]) -> Option<()>
+    ensures { IfSome result (λ _. line.new.items ≡ line.old.items ++ flat_map (λ piece. piece.now) pieces.now) }
 {
-    let mut line = ArrayVec::new();
     for piece in pieces {
         line.try_extend_from_slice(piece).ok()?;
     }
-    Some(line)
+    Some(())
 }
 
 /// Writes pieces one by one.
@@ -31,8 +30,9 @@ fn write_each<S: Sink>(out: &mut S, pieces: &[&[u8]]) -> Result<(), SinkFailed>
 pub fn write_line<S: Sink>(out: &mut S, pieces: &[&[u8]]) -> Result<(), SinkFailed>
     ensures { Writes S.stands S.faults out.old out.new (flat_map (λ piece. piece.now) pieces.now) result }
 {
-    match gathered(pieces) {
-        Some(line) => out.write(line.as_slice()),
+    let mut line = ArrayVec::new();
+    match gather(&mut line, pieces) {
+        Some(()) => out.write(line.as_slice()),
         None => write_each(out, pieces),
     }
 }
