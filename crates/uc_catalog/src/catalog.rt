@@ -103,10 +103,11 @@ impl Catalog {
         ensures fed { fed_of self.new ≤ fed_of self.old + length piece.now }
         ensures come { (bytes : List ℕ) → Comes bytes self.old → IsFed bytes piece.now self.new result }
     {
-        let mut coming = Coming::or_new(self.alloc, self.coming.take());
-        let answer = coming.feed(self.keeps, piece);
-        self.coming = Some(coming);
-        answer
+        Coming::begin(self.alloc, &mut self.coming);
+        match &mut self.coming {
+            Some(coming) => coming.feed(self.keeps, piece),
+            None => unreachable!(),
+        }
     }
 
     /// Adds the file that was read, of which no more bytes come, as `add` would; with no piece fed, the empty file. At
@@ -117,8 +118,7 @@ impl Catalog {
         ensures counted { IsCounted self.new }
     {
         self.files.reserve(1)?;
-        let coming = Coming::or_new(self.alloc, self.coming.take());
-        match coming.finish() {
+        match Coming::finish_of(self.alloc, self.coming.take()) {
             Ok(file) => {
                 self.files.push_reserved(file);
                 Ok(())
@@ -131,7 +131,9 @@ impl Catalog {
     pub fn drop_file(&mut self)
         ensures { self.new ≡ with_coming None self.old }
     {
-        self.coming = None;
+        if self.coming.is_some() {
+            self.coming = None;
+        }
     }
 
     /// The number of files.

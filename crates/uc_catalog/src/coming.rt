@@ -1,5 +1,5 @@
 //! A file that is being read.
-ghost use Rattle.std.specs.Prelude.{◌≡◌, ◌+◌, ◌≤◌, ◌++◌, ℕ, Bool, List, [], IfOk, OnOk, OnErr, length, take, vec_len};
+ghost use Rattle.std.specs.Prelude.{◌≡◌, ◌+◌, ◌≤◌, ◌++◌, ℕ, Bool, List, [], IsSome, IfOk, OnOk, OnErr, length, take, vec_len};
 ghost use Rattle.uc_bytes.specs.declared.TheConstants.{FILE_LIMIT};
 ghost use Rattle.file_rows.specs.Kept.{kept_bytes};
 ghost use Rattle.file_rows.specs.FileReading.{fed_of};
@@ -42,14 +42,15 @@ impl Coming {
         }
     }
 
-    /// The file of which pieces came, or one of which nothing came.
-    pub fn or_new(alloc: Global, coming: Option<Coming>) -> Coming
-        ensures comes { (keeps : Bool) (bytes : List ℕ) → ComesBy keeps bytes coming → ComesIn keeps bytes result }
-        ensures fed { fed_of result.reader ≡ fed_by coming }
+    /// Begins a file of which nothing came, where none is being read.
+    pub fn begin(alloc: Global, coming: &mut Option<Coming>)
+        ensures some { IsSome coming.new }
+        ensures comes { (keeps : Bool) (bytes : List ℕ) → ComesBy keeps bytes coming.old
+            → ComesBy keeps bytes coming.new }
+        ensures fed { fed_by coming.new ≡ fed_by coming.old }
     {
-        match coming {
-            Some(coming) => coming,
-            None => Coming::new(alloc),
+        if coming.is_none() {
+            *coming = Some(Coming::new(alloc));
         }
     }
 
@@ -86,6 +87,18 @@ impl Coming {
                 bytes: self.bytes,
             }),
             Err(fault) => Err(fault),
+        }
+    }
+
+    /// The same of a file of which perhaps nothing came.
+    pub fn finish_of(alloc: Global, coming: Option<Coming>) -> Result<KeptFile, FileFault>
+        ensures finished { (keeps : Bool) (bytes : List ℕ) → ComesBy keeps bytes coming
+            → IsFinishedIn keeps bytes result }
+        ensures few { IfOk result HasFewPairsIn }
+    {
+        match coming {
+            Some(coming) => coming.finish(),
+            None => Coming::new(alloc).finish(),
         }
     }
 }

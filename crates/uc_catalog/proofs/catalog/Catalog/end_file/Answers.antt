@@ -1,4 +1,4 @@
-use Rattle.std.proofs.Common.{ℕ, ◌<◌, Bool, Option, None, List, [], ◌∷◌, ◌++◌, length, sym, ◌∙◌, ap, subst, arith}
+use Rattle.std.proofs.Common.{◌<◌, Option, None, List, [], ◌∷◌, ◌++◌, length, sym, ◌∙◌, ap, subst, arith}
 use Rattle.std.proofs.lemmas.List.{length-map}
 use Rattle.uc_catalog.specs.declared.coming.Coming.{Coming}
 use Rattle.uc_catalog.specs.declared.file.KeptFile.{KeptFile}
@@ -18,7 +18,7 @@ invariant_of-self-in-Ok c =
     let keeps = c.self.inside.keeps in
     let files = c.self.inside.files.items in
     let came = some_came keeps c.self.inside.coming c.self.invariant.1 in
-    let before = c.or_new-coming.ensures.comes keeps came.0 (subst (λ (o : Option Coming). ComesBy keeps came.0 o) (sym c.take.ensures.value) came.1) in
+    let before = subst (λ (o : Option Coming). ComesBy keeps came.0 o) (sym c.take.ensures.value) came.1 in
     let finished = c.in-Ok.ensures.finished keeps came.0 before in
     let behind = c.push_reserved.ensures.items ∙ ap (λ (l : List KeptFile). l ++ c.in-Ok.file ∷ []) c.reserve.ensures.items in
     let room : length files < 16 = omega (arith, subst (λ (v : Contents). length v.files < 16) (sym c.self.view_is) c.requires, length-map files (λ (f : KeptFile). sum_of_rows f.rows)) in (
@@ -30,7 +30,7 @@ pub returns-in-Ok-clause-ended : goal.returns-in-Ok-clause-ended
 returns-in-Ok-clause-ended c = λ bytes comes.
     let keeps = c.self.inside.keeps in
     let came = subst (λ (v : Contents). ComesBy v.keeps bytes v.coming) (sym c.self.view_is) comes in
-    let before = c.or_new-coming.ensures.comes keeps bytes (subst (λ (o : Option Coming). ComesBy keeps bytes o) (sym c.take.ensures.value) came) in
+    let before = subst (λ (o : Option Coming). ComesBy keeps bytes o) (sym c.take.ensures.value) came in
     let finished = c.in-Ok.ensures.finished keeps bytes before in
     let behind = c.push_reserved.ensures.items ∙ ap (λ (l : List KeptFile). l ++ c.in-Ok.file ∷ []) c.reserve.ensures.items in (
       subst (λ (v : Contents). Adds v (contents_of keeps c.push_reserved.new.self.items c.take.new.self) bytes) c.self.view_is
@@ -45,7 +45,7 @@ pub returns-in-Err-clause-ended : goal.returns-in-Err-clause-ended
 returns-in-Err-clause-ended c = λ bytes comes.
     let keeps = c.self.inside.keeps in
     let came = subst (λ (v : Contents). ComesBy v.keeps bytes v.coming) (sym c.self.view_is) comes in
-    let before = c.or_new-coming.ensures.comes keeps bytes (subst (λ (o : Option Coming). ComesBy keeps bytes o) (sym c.take.ensures.value) came) in (
+    let before = subst (λ (o : Option Coming). ComesBy keeps bytes o) (sym c.take.ensures.value) came in (
       c.in-Err.ensures.finished keeps bytes before,
       (λ i. contents_of keeps (c.reserve.ensures.items i) (c.take.ensures.after i)) ∙ ap (λ (v : Contents). with_coming None v) c.self.view_is,
     )
