@@ -42,7 +42,7 @@ pub fn read_update<F: Files>(
 /// read or has no reading decides, and no later one is opened.
 pub fn read_files<F: Files>(
     alloc: Global,
-    catalog: Catalog,
+    mut catalog: Catalog,
     names: &[Text],
     files: &mut F,
 ) -> Result<Catalog, FilesAnswer>
@@ -54,7 +54,6 @@ pub fn read_files<F: Files>(
     ensures still { F.tells files.old → F.tells files.new }
     ensures later { F.faults files.old ≤ F.faults files.new }
 {
-    let mut catalog = catalog;
     let mut place: u16 = 0;
     'names: for name in names {
         match read_update(alloc, &mut catalog, name, files) {
