@@ -7,6 +7,7 @@ ghost use Rattle.ctl_core.specs.Moments.{running_of, Fits};
 
 use crate::moments::Moment;
 use crate::outcomes::Outcome;
+use arrayvec::ArrayVec;
 use ctl_words::Plan;
 use rendezvous_steps::{Event, Item, What};
 use std::alloc::Global;
@@ -107,11 +108,14 @@ impl<'a> Core<'a> {
     pub fn outcome(&self) -> Outcome
         ensures { OutcomeShows (plan_in self.now) (outcome_of result) (state_in self.now) }
     {
-        Outcome {
+        let mut outcome = Outcome {
             decide: self.moment.decision(),
-            ends: self.moment.ends(self.plan),
-            revs: self.moment.revisions(self.plan),
-        }
+            ends: ArrayVec::new(),
+            revs: ArrayVec::new(),
+        };
+        self.moment.put_ends(self.plan, &mut outcome.ends);
+        self.moment.put_revisions(self.plan, &mut outcome.revs);
+        outcome
     }
 
     /// How many items so far were none of Poll, Idle, Latched and Ordinary: at most 20 for each thread and 8 more.

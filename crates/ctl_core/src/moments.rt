@@ -146,28 +146,26 @@ impl Moment {
         self.words.get(Word::Decide)
     }
 
-    /// How each thread came out, by its number.
-    pub fn ends(&self, plan: &Plan) -> ArrayVec<End, 256>
+    /// Fills a table with how each thread came out, by its number.
+    pub fn put_ends(&self, plan: &Plan, ends: &mut ArrayVec<End, 256>)
         requires { IsSound plan.now }
-        ensures { result.items ≡ map (end_in (plan_of plan.now) (running_of self.now).words) (threads_from (plan_of plan.now) 0) }
+        ensures { ends.new.items ≡ map (end_in (plan_of plan.now) (running_of self.now).words) (threads_from (plan_of plan.now) 0) }
     {
-        let mut ends = ArrayVec::new();
-        for thread in 0..plan.threads {
+        ends.clear();
+        'threads: for thread in 0..plan.threads {
             ends.push(looks::end(&self.words, plan, thread));
         }
-        ends
     }
 
-    /// The running revision of each group.
-    pub fn revisions(&self, plan: &Plan) -> ArrayVec<u32, 256>
+    /// Fills a table with the running revision of each group.
+    pub fn put_revisions(&self, plan: &Plan, revisions: &mut ArrayVec<u32, 256>)
         requires fits { Fits (plan_of plan.now) self.now }
-        ensures { result.items ≡ map (λ g. (running_of self.now).words (Rev g)) (range_with_len 0 (plan_of plan.now).groups) }
+        ensures { revisions.new.items ≡ map (λ g. (running_of self.now).words (Rev g)) (range_with_len 0 (plan_of plan.now).groups) }
     {
-        let mut revisions = ArrayVec::new();
-        for group in 0..plan.groups() {
+        revisions.clear();
+        'groups: for group in 0..plan.groups() {
             revisions.push(self.revision(group));
         }
-        revisions
     }
 
     fn revision(&self, group: u16) -> u32

@@ -60,10 +60,8 @@ fn offer_and_run<R: Rendezvous, S: Sink>(
 {
     tables_end();
     let plan = &tables.plan;
-    match put_load_offers(out, topology, plan, catalog, tables.offers.as_slice()) {
-        Ok(()) => how.run(alloc, plan, beats, out),
-        Err(_) => Err(RunAnswer::WriteFault),
-    }
+    put_load_offers(out, topology, plan, catalog, tables.offers.as_slice())?;
+    how.run(alloc, plan, beats, out)
 }
 
 /// What a command answers whose load came to this.
@@ -148,17 +146,18 @@ pub fn play_load<R: Rendezvous, F: Files, S: Sink>(
         Err(Stop::NoMemory) => return Played::NoMemory,
     };
     parts.plan(tables.places.as_slice(), &mut tables.plan);
-    let outcome = match offer_and_run(alloc, parts.topology(), &catalog, tables, beats, how, out) {
+    let met = offer_and_run(alloc, parts.topology(), &catalog, tables, beats, how, out);
+    let outcome = match &met {
         Ok(outcome) => outcome,
         Err(answer) => {
             parts.take_back(tables.places.as_slice());
-            return cut_short(answer);
+            return cut_short(*answer);
         }
     };
     let plan = &tables.plan;
     parts.finish_load(tables.places.as_slice(), plan, outcome.revs.as_slice());
-    let answer = command_answer(verdict(plan, &outcome));
-    match put_end(out, parts.topology(), plan, &outcome, names, answer) {
+    let answer = command_answer(verdict(plan, outcome));
+    match put_end(out, parts.topology(), plan, outcome, names, answer) {
         Ok(()) => Played::Answered(answer),
         Err(_) => Played::WriteFault,
     }

@@ -1,4 +1,5 @@
 use Rattle.std.proofs.Common.{ℕ, List, Option, Ok, Err, subst}
+use Rattle.std.proofs.lemmas.Result.{err_from_is_err_and}
 use Rattle.uc_io.specs.declared.sinks.SinkFailed.{SinkFailed}
 use Rattle.uc_io.specs.Writing.{Writes}
 use Rattle.ctl_words.specs.Plans.{plan_of}
@@ -6,18 +7,20 @@ use Rattle.session_steps.specs.Offers.{load_offers_text}
 use Rattle.uc_session.proofs.Meeting.{not_offered, they_met}
 use Rattle.uc_session.proofs.loads.offer_and_run.Goals as goal
 
-pub returns-in-Err-clause-meets : goal.returns-in-Err-clause-meets
-returns-in-Err-clause-meets g c = λ setting state puts is_machine is_plan.
+pub returns-in_err-put_load_offers-clause-meets : goal.returns-in_err-put_load_offers-clause-meets
+returns-in_err-put_load_offers-clause-meets g c = λ setting state puts is_machine is_plan.
+    let failed = err_from_is_err_and c.from_residual.result c.from_residual.ensures.1 in
     let plan = plan_of c.args.tables.now.plan in
     let entries = c.args.catalog.now.entries in
-    not_offered (record { stands = g.S.Sink.stands; faults = g.S.Sink.faults; lists = g.R.Rendezvous.lists }) plan c.args.beats.now
-    (load_offers_text setting state entries c.args.tables.now.offers.items) {E = SinkFailed} c.in-Err.field-0 c.args.out.now c.put_load_offers.new.out
+    rw (failed.1, failed.2)
+    (not_offered (record { stands = g.S.Sink.stands; faults = g.S.Sink.faults; lists = g.R.Rendezvous.lists }) plan c.args.beats.now
+    (load_offers_text setting state entries c.args.tables.now.offers.items) {E = SinkFailed} _ c.args.out.now c.put_load_offers.new.out
     (g.met.R.Rendezvous.always_runs plan c.args.beats.now c.requires.sound.sound (c.tables_end.ensures c.args.tables.now.plan c.requires.sound))
-    (subst (λ (offers : List (Option ℕ)). Writes {E = SinkFailed} g.S.Sink.stands g.S.Sink.faults c.args.out.now c.put_load_offers.new.out (load_offers_text setting state entries offers) (Err c.in-Err.field-0))
-    c.as_slice.ensures.value (c.in-Err.ensures setting state puts c.args.tables.now.offers.items is_machine is_plan))
+    (subst (λ (offers : List (Option ℕ)). Writes {E = SinkFailed} g.S.Sink.stands g.S.Sink.faults c.args.out.now c.put_load_offers.new.out (load_offers_text setting state entries offers) (Err _))
+    c.as_slice.ensures.value (c.in_err-put_load_offers.ensures setting state puts c.args.tables.now.offers.items is_machine is_plan)))
 
-pub returns-in-Ok-clause-meets : goal.returns-in-Ok-clause-meets
-returns-in-Ok-clause-meets g c = λ setting state puts is_machine is_plan.
+pub returns-clause-meets : goal.returns-clause-meets
+returns-clause-meets g c = λ setting state puts is_machine is_plan.
     let plan = plan_of c.args.tables.now.plan in
     let entries = c.args.catalog.now.entries in
     they_met (record { stands = g.S.Sink.stands; faults = g.S.Sink.faults; lists = g.R.Rendezvous.lists }) plan c.args.beats.now
@@ -26,5 +29,5 @@ returns-in-Ok-clause-meets g c = λ setting state puts is_machine is_plan.
     (record { runs = g.R.Rendezvous.runs c.run.new.self; sink = c.run.new.out }) c.put_load_offers.new.out c.run.result
     (g.met.R.Rendezvous.always_runs plan c.args.beats.now c.requires.sound.sound (c.tables_end.ensures c.args.tables.now.plan c.requires.sound))
     (subst (λ (offers : List (Option ℕ)). Writes {E = SinkFailed} g.S.Sink.stands g.S.Sink.faults c.args.out.now c.put_load_offers.new.out (load_offers_text setting state entries offers) (Ok tt))
-    c.as_slice.ensures.value (c.in-Ok.ensures setting state puts c.args.tables.now.offers.items is_machine is_plan))
+    c.as_slice.ensures.value (c.in_ok-put_load_offers.ensures setting state puts c.args.tables.now.offers.items is_machine is_plan))
     c.run.ensures.answer

@@ -6,6 +6,6 @@ pub returns : goal.returns
 returns c =
     record {
       decide = c.decision.ensures ∙ decide_shown _;
-      ends = c.ends.ensures;
-      revs = c.revisions.ensures;
+      ends = c.put_ends.ensures;
+      revs = c.put_revisions.ensures;
     }

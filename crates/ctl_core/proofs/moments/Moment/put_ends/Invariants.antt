@@ -3,9 +3,9 @@ use Rattle.std.specs.List.{range_with_len}
 use Rattle.ctl_words.specs.Plans.{plan_of}
 use Rattle.ctl_words.specs.Lists.{word_of}
 use Rattle.ctl_core.specs.Moments.{end_in}
-use Rattle.ctl_core.proofs.moments.Moment.ends.Given as goal
+use Rattle.ctl_core.proofs.moments.Moment.put_ends.Given as goal
 
 -- those of the threads so far
-abbrev pub invariant-loop-thread : goal.invariant-loop-thread
-invariant-loop-thread l =
+abbrev pub invariant-threads : goal.invariant-threads
+invariant-threads l =
     l.ends.items ≡ map (end_in (plan_of l.plan) (word_of l.self-inside.words)) (range_with_len 0 l.thread)
