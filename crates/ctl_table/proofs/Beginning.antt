@@ -25,7 +25,8 @@ use Rattle.ctl_table.specs.declared.standings.Standing.{Standing}
 use Rattle.ctl_table.specs.declared.standings.View.{View}
 use Rattle.ctl_table.specs.declared.standings.View.TheVariants.{Spent, Sits}
 use Rattle.ctl_table.specs.Words.{words_of}
-use Rattle.ctl_table.specs.Openings.{first_revision, opening_at, opening_row, IsCopy}
+use Rattle.ctl_table.specs.Openings.{first_revision, opening_at, opening_row}
+use Rattle.ctl_table.specs.Copies.{IsCopy}
 use Rattle.ctl_table.specs.Standings.{opening_standing, opening_view}
 use Rattle.ctl_table.specs.Holds.{Holds, SeatOk}
 use Rattle.ctl_table.proofs.Sitting.{sits_not_spent}

@@ -121,18 +121,18 @@ module _ (bay : Bay) (post : Post) (row : List ℕ) (slots : List (Unit {0})) (o
   abbrev at_end : Desk
   at_end = final.0
 
-  holds_at_end : Holds bay.plan at_end
+  holds_at_end : Holds bay.plan.value at_end
   holds_at_end = subst (λ (p : Tables). Holds p at_end) bay.keyed final.1.0
 
   row_is : at_end.words ≡ row
   row_is = final.2
 
-  pub revisions_at_end : (g : ℕ) → IsTrue (is_first_or_offer (plan_of bay.plan) g (words_of (plan_of bay.plan) row (Rev g)))
+  pub revisions_at_end : (g : ℕ) → IsTrue (is_first_or_offer (plan_of bay.plan.value) g (words_of (plan_of bay.plan.value) row (Rev g)))
   revisions_at_end g =
-      subst (λ (r : List ℕ). IsTrue (is_first_or_offer (plan_of bay.plan) g (words_of (plan_of bay.plan) r (Rev g)))) row_is
-      (revisions_known bay.plan at_end holds_at_end bay.sound g)
+      subst (λ (r : List ℕ). IsTrue (is_first_or_offer (plan_of bay.plan.value) g (words_of (plan_of bay.plan.value) r (Rev g)))) row_is
+      (revisions_known bay.plan.value at_end holds_at_end bay.sound g)
 
-  pub closed_at_end : post.thread ≡ 0 → post.joined + 1 ≡ bay.plan.threads → IsTrue (is_last post.local.phase) → (outcome : Outcome) → OutcomeReads (plan_of bay.plan) (words_of (plan_of bay.plan) row) outcome → ClosedShows (plan_of bay.plan) (outcome_of outcome) post.late
+  pub closed_at_end : post.thread ≡ 0 → post.joined + 1 ≡ bay.plan.value.threads → IsTrue (is_last post.local.phase) → (outcome : Outcome) → OutcomeReads (plan_of bay.plan.value) (words_of (plan_of bay.plan.value) row) outcome → ClosedShows (plan_of bay.plan.value) (outcome_of outcome) post.late
   closed_at_end first all ended outcome reads =
-      closes bay.plan bay.sound at_end holds_at_end post.seat.id (standing_of bay.plan post) (final.1.1 ∙ ap (λ (m : Me (Unit {0}) View). some m.0) ours.sits) first all ended outcome
-      (subst (λ (r : List ℕ). OutcomeReads (plan_of bay.plan) (words_of (plan_of bay.plan) r) outcome) (sym row_is) reads)
+      closes bay.plan.value bay.sound at_end holds_at_end post.seat.id (standing_of bay.plan.value post) (final.1.1 ∙ ap (λ (m : Me (Unit {0}) View). some m.0) ours.sits) first all ended outcome
+      (subst (λ (r : List ℕ). OutcomeReads (plan_of bay.plan.value) (words_of (plan_of bay.plan.value) r) outcome) (sym row_is) reads)

@@ -14,10 +14,10 @@ opens_at_zero : (plan : Plan) (t : ℕ) → (opening plan t).at ≡ 0
 unfolding opening
 opens_at_zero plan t = refl
 
-opens_so : (bay : Bay) (post : Post) (t : ℕ) → Opens (plan_in bay) t post → opening_standing bay.plan t ≡ standing_of bay.plan post
+opens_so : (bay : Bay) (post : Post) (t : ℕ) → Opens (plan_in bay) t post → opening_standing bay.plan.value t ≡ standing_of bay.plan.value post
 opens_so bay post t opens i =
     record {
-      plan = bay.plan;
+      plan = bay.plan.value;
       thread = sym opens.thread i;
       local = sym opens.local i;
       given = sym opens.given i;
@@ -25,11 +25,11 @@ opens_so bay post t opens i =
       late = sym opens.late i;
     }
 
-pub opened_of : (bay : Bay) (post : Post) (t : ℕ) → post.seat.table_id ≡ bay.table.shared.table_id → post.seat.me ≡ (Sits (opening_standing bay.plan t), []) → Opens (plan_in bay) t post → t < bay.plan.threads → 0 < bay.plan.threads → IsOf bay post
+pub opened_of : (bay : Bay) (post : Post) (t : ℕ) → post.seat.table_id ≡ bay.table.shared.table_id → post.seat.me ≡ (Sits (opening_standing bay.plan.value t), []) → Opens (plan_in bay) t post → t < bay.plan.value.threads → 0 < bay.plan.value.threads → IsOf bay post
 opened_of bay post t same sits opens below some_thread =
     record {
       same_table = same;
       sits = sits ∙ ap (λ (v : Standing). (Sits v, [])) (opens_so bay post t opens);
-      thread_in_range = subst (λ (n : ℕ). n < bay.plan.threads) (sym opens.thread) below;
-      at_in_range = subst (λ (n : ℕ). n < bay.plan.threads) (sym (ap (λ (l : Local). l.at) opens.local ∙ opens_at_zero (plan_in bay) t)) some_thread;
+      thread_in_range = subst (λ (n : ℕ). n < bay.plan.value.threads) (sym opens.thread) below;
+      at_in_range = subst (λ (n : ℕ). n < bay.plan.value.threads) (sym (ap (λ (l : Local). l.at) opens.local ∙ opens_at_zero (plan_in bay) t)) some_thread;
     }

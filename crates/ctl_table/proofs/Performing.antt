@@ -24,18 +24,18 @@ use Rattle.ctl_table.proofs.Reading.{place_below}
 use Rattle.ctl_table.proofs.Turning.{Goes, turn_allowed}
 
 -- a post's seat may do what the step table names for its thread
-pub may_turn : (bay : Bay) (post : Post) (h h' : How) (op : Op) → IsOf bay post → h' ≡ h → is_step h ≡ true → operation (plan_of bay.plan) post.thread post.local h ≡ Some op → MayTurn bay h' post.seat op
+pub may_turn : (bay : Bay) (post : Post) (h h' : How) (op : Op) → IsOf bay post → h' ≡ h → is_step h ≡ true → operation (plan_of bay.plan.value) post.thread post.local h ≡ Some op → MayTurn bay h' post.seat op
 may_turn bay post h h' op ours same steps operates =
     record {
       same_table = ours.same_table;
-      standing = standing_of bay.plan post;
+      standing = standing_of bay.plan.value post;
       sits = ours.sits;
       its_plan = refl;
       steps = subst (λ (x : How). is_step x ≡ true) (sym same) steps;
-      operates = subst (λ (x : How). operation (plan_of bay.plan) post.thread post.local x ≡ Some op) (sym same) operates;
+      operates = subst (λ (x : How). operation (plan_of bay.plan.value) post.thread post.local x ≡ Some op) (sym same) operates;
       known =
-          subst (λ (o : Option Op). IfSome o (λ q. IsTrue (is_word (plan_of bay.plan) (touched q)))) operates
-          (words (plan_of bay.plan) post.thread post.local h bay.sound.sound ours.thread_in_range ours.at_in_range);
+          subst (λ (o : Option Op). IfSome o (λ q. IsTrue (is_word (plan_of bay.plan.value) (touched q)))) operates
+          (words (plan_of bay.plan.value) post.thread post.local h bay.sound.sound ours.thread_in_range ours.at_in_range);
     }
 
 -- where a post stands once its thread has moved
@@ -43,10 +43,10 @@ pub moved_so : (v : Standing) (h h' : How) (found : ℕ) (local : Local) (late :
 moved_so v h h' found local late same goes later =
     ap (λ (x : How). moved x v found) same ∙ (λ i. record v { local = sym goes i; late = sym later i })
 
-pub loop_in_range : (bay : Bay) (post : Post) (h : How) (found : ℕ) → IsOf bay post → (after (plan_of bay.plan) post.thread post.local h found).0.at < bay.plan.threads
-loop_in_range bay post h found ours = place (plan_of bay.plan) post.thread post.local h found ours.at_in_range
+pub loop_in_range : (bay : Bay) (post : Post) (h : How) (found : ℕ) → IsOf bay post → (after (plan_of bay.plan.value) post.thread post.local h found).0.at < bay.plan.value.threads
+loop_in_range bay post h found ours = place (plan_of bay.plan.value) post.thread post.local h found ours.at_in_range
 
-module _ (bay : Bay) (seat : Seat (Unit {0}) View) (h : How) (op : Op) (place : ℕ) (may : MayTurn bay h seat op) (at : place ≡ place_of (plan_of bay.plan) (touched op)) where
+module _ (bay : Bay) (seat : Seat (Unit {0}) View) (h : How) (op : Op) (place : ℕ) (may : MayTurn bay h seat op) (at : place ≡ place_of (plan_of bay.plan.value) (touched op)) where
   abbrev pub Performs : (ℕ → ℕ) → Type 0
   Performs f =
       (seat.table_id ≡ bay.table.shared.table_id)
@@ -54,12 +54,12 @@ module _ (bay : Bay) (seat : Seat (Unit {0}) View) (h : How) (op : Op) (place : 
 
   performs : (f : ℕ → ℕ) → ((n : ℕ) → f n ≡ written op n) → Performs f
   performs f does =
-      let below = place_below (plan_of bay.plan) (touched op) may.known in
+      let below = place_below (plan_of bay.plan.value) (touched op) may.known in
       let sized = bay.sized in (
         may.same_table,
         omega arith,
         subst (λ (p : Tables). Goes p bay.table.shared.table_id.slots seat.id h seat.me place f) (sym bay.keyed)
-            (turn_allowed bay.plan bay.table.shared.table_id.slots seat.id may.standing h op seat.me place f bay.sound may.sits may.steps may.operates may.known at does),
+            (turn_allowed bay.plan.value bay.table.shared.table_id.slots seat.id may.standing h op seat.me place f bay.sound may.sits may.steps may.operates may.known at does),
       )
 
   pub turn_load : (w : Word) → op ≡ Load w → Performs (λ n. n)

@@ -8,7 +8,7 @@ use Rattle.ctl_table.specs.declared.closed.Closed.{Closed}
 use Rattle.ctl_table.specs.Ended.{ClosedShows}
 
 abbrev pub closed_plan : Closed → Plan
-closed_plan closed = plan_of closed.plan
+closed_plan closed = plan_of closed.plan.value
 
 abbrev pub closed_outcome : Closed → Outcome
 closed_outcome closed = outcome_of closed.outcome

@@ -2,6 +2,7 @@ pub mod Words
 pub mod Standings
 pub mod Holds
 pub mod Openings
+pub mod Copies
 pub mod Posts
 pub mod Seen
 pub mod Ended

@@ -1,8 +1,7 @@
 -- What a bay begins with.
-use Rattle.std.specs.Prelude.{◌≡◌, ℕ, ◌+◌, ◌-◌, ◌*◌, ◌==◌, ◌&&◌, if◌then◌else◌, nat_le, nat_lt, List, map}
+use Rattle.std.specs.Prelude.{ℕ, ◌+◌, ◌-◌, ◌*◌, ◌==◌, ◌&&◌, if◌then◌else◌, nat_le, nat_lt, List, map}
 use Rattle.std.specs.List.{range_with_len}
 use Rattle.rendezvous_steps.specs.Plan.{Plan, online_count}
-use Rattle.ctl_words.specs.declared.plans.Plan.{Plan as Tables}
 use Rattle.ctl_words.specs.Places.{word_count}
 
 -- where the revisions of the groups begin
@@ -19,14 +18,3 @@ opening_at plan k =
 
 abbrev pub opening_row : Plan → List ℕ
 opening_row plan = map (opening_at plan) (range_with_len 0 (word_count plan))
-
--- q has the tables of p
-pub record IsCopy (p q : Tables) : Type 0 where
-  pub threads : q.threads ≡ p.threads
-  pub kind : q.kind.items ≡ p.kind.items
-  pub group : q.group.items ≡ p.group.items
-  pub primary : q.primary.items ≡ p.primary.items
-  pub offer : q.offer.items ≡ p.offer.items
-  pub refuse : q.refuse.items ≡ p.refuse.items
-  pub rev0 : q.rev0.items ≡ p.rev0.items
-  pub patience : q.patience ≡ p.patience

@@ -21,7 +21,7 @@ use Rattle.ctl_table.specs.declared.posts.Post.{Post}
 use Rattle.ctl_table.specs.Standings.{one_more}
 
 abbrev pub plan_in : Bay → Plan
-plan_in bay = plan_of bay.plan
+plan_in bay = plan_of bay.plan.value
 
 abbrev pub thread_of : Post → ℕ
 thread_of post = post.thread
@@ -67,9 +67,9 @@ standing_of plan post =
 -- the post is one of this bay's
 pub record IsOf (bay : Bay) (post : Post) : Type 0 where
   pub same_table : post.seat.table_id ≡ bay.table.shared.table_id
-  pub sits : post.seat.me ≡ (Sits (standing_of bay.plan post), [])
-  pub thread_in_range : post.thread < bay.plan.threads
-  pub at_in_range : post.local.at < bay.plan.threads
+  pub sits : post.seat.me ≡ (Sits (standing_of bay.plan.value post), [])
+  pub thread_in_range : post.thread < bay.plan.value.threads
+  pub at_in_range : post.local.at < bay.plan.value.threads
 
 -- the post of this thread as it begins
 pub record Opens (plan : Plan) (t : ℕ) (post : Post) : Type 0 where
@@ -100,7 +100,7 @@ pub record MayTurn (bay : Bay) (h : How) (seat : Seat (Unit {0}) View) (op : Op)
   pub same_table : seat.table_id ≡ bay.table.shared.table_id
   pub standing : Standing
   pub sits : seat.me ≡ (Sits standing, [])
-  pub its_plan : standing.plan ≡ bay.plan
+  pub its_plan : standing.plan ≡ bay.plan.value
   pub steps : is_step h ≡ true
-  pub operates : operation (plan_of bay.plan) standing.thread standing.local h ≡ Some op
-  pub known : IsTrue (is_word (plan_of bay.plan) (touched op))
+  pub operates : operation (plan_of bay.plan.value) standing.thread standing.local h ≡ Some op
+  pub known : IsTrue (is_word (plan_of bay.plan.value) (touched op))

@@ -5,8 +5,9 @@ ghost use Rattle.ctl_words.specs.Plans.{plan_of, IsSound};
 ghost use Rattle.ctl_words.specs.Places.{word_count};
 
 use crate::closed::Closed;
+use crate::copies::copied;
 use crate::last::Last;
-use crate::openings::{copied, opening_words};
+use crate::openings::opening_words;
 use crate::posts::Post;
 use crate::standings::{Handing, Rules, Taking, View};
 use atomic_table::Table;
@@ -15,15 +16,16 @@ use ctl_words::Plan;
 use std::alloc::Global;
 use uc_bytes::NoMemory;
 
-/// The control words of one plan. Posts step on them through a `&Bay`, each from whatever thread holds it.
+/// The control words of one plan. Posts step on them through a `&Bay`, each from whatever thread holds it. The plan is in a
+/// box, since each of its tables has 256 places: it is copied once, and then no more moved.
 #[derive(Drop)]
 pub struct Bay {
-    pub(crate) plan: Plan,
+    pub(crate) plan: Box<Plan>,
     pub(crate) table: Table<(), View, Plan, Rules, Global>,
-    ghost sound: { IsSound plan },
-    ghost keyed: { table.shared.key ≡ plan },
+    ghost sound: { IsSound plan.value },
+    ghost keyed: { table.shared.key ≡ plan.value },
     ghost no_slots: { table.shared.table_id.slots ≡ 0 },
-    ghost sized: { table.shared.table_id.words ≡ word_count (plan_of plan) },
+    ghost sized: { table.shared.table_id.words ≡ word_count (plan_of plan.value) },
 }
 
 impl Bay {
@@ -43,8 +45,8 @@ impl Bay {
         ensures opens { IfOk result (λ made. Opens (plan_of plan.now) 0 made.1) }
     {
         let words = opening_words(alloc, plan)?;
-        let plan = copied(plan);
-        let (table, seat) = Table::of_words(alloc, &words, &plan)?;
+        let plan = Box::new(alloc, copied(plan))?;
+        let (table, seat) = Table::of_words(alloc, &words, &*plan)?;
         let post = Post {
             seat,
             thread: 0,

@@ -11,10 +11,10 @@ use ctl_words::Plan;
 /// What a bay came to. Only `Bay::close` makes one.
 #[derive(Drop)]
 pub struct Closed {
-    pub(crate) plan: Plan,
+    pub(crate) plan: Box<Plan>,
     pub(crate) outcome: Outcome,
     pub(crate) late: bool,
-    ghost shows: { ∥ ClosedShows (plan_of plan) (outcome_of outcome) late ∥₁ },
+    ghost shows: { ∥ ClosedShows (plan_of plan.value) (outcome_of outcome) late ∥₁ },
 }
 
 impl Closed {

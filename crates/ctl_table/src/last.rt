@@ -31,15 +31,18 @@ pub struct Last<'a> {
 impl Last<'_> {
     ghost use Rattle.ctl_table.specs.Lasts.{plan_at, words_at, ends_read, revisions_read, OutcomeReads};
 
-    /// The outcome that the words show.
+    /// The outcome that the words show. Its lists are filled where they stand, since each has 256 places.
     pub fn outcome(&self) -> Outcome
         ensures { OutcomeReads (plan_at self.now) (words_at self.now) result }
     {
-        Outcome {
+        let mut outcome = Outcome {
             decide: self.word(Word::Decide),
-            ends: self.ends(),
-            revs: self.revisions(),
-        }
+            ends: ArrayVec::new(),
+            revs: ArrayVec::new(),
+        };
+        self.fill_ends(&mut outcome.ends);
+        self.fill_revisions(&mut outcome.revs);
+        outcome
     }
 
     fn word(&self, word: Word) -> u64
@@ -49,14 +52,14 @@ impl Last<'_> {
         self.words.word(self.plan.place(word) as usize)
     }
 
-    fn ends(&self) -> ArrayVec<End, 256>
-        ensures { result.items ≡ ends_read (plan_at self.now) (words_at self.now) }
+    /// Gives a list the end of each thread. What it held is let go.
+    fn fill_ends(&self, ends: &mut ArrayVec<End, 256>)
+        ensures { ends.new.items ≡ ends_read (plan_at self.now) (words_at self.now) }
     {
-        let mut ends = ArrayVec::new();
+        ends.clear();
         for thread in 0..self.plan.threads {
             ends.push(self.end(thread));
         }
-        ends
     }
 
     fn end(&self, thread: u16) -> End
@@ -77,14 +80,14 @@ impl Last<'_> {
         }
     }
 
-    fn revisions(&self) -> ArrayVec<u32, 256>
-        ensures { result.items ≡ revisions_read (plan_at self.now) (words_at self.now) }
+    /// Gives a list the revision of each group. What it held is let go.
+    fn fill_revisions(&self, revisions: &mut ArrayVec<u32, 256>)
+        ensures { revisions.new.items ≡ revisions_read (plan_at self.now) (words_at self.now) }
     {
-        let mut revisions = ArrayVec::new();
+        revisions.clear();
         for group in 0..self.plan.groups() {
             revisions.push(self.revision(group));
         }
-        revisions
     }
 
     fn revision(&self, group: u16) -> u32

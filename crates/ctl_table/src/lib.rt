@@ -11,10 +11,12 @@
 //! - `bays`: the bay, and its making, splits, joins and end. `steps`: one step.
 //! - `posts`: a post. `standings`: what the table knows of one, which has no bytes.
 //! - `last`: the words of a bay that is closed, read into an outcome. `closed`: that outcome with its plan.
+//! - `openings`: what a bay begins with. `copies`: a plan once more.
 #![tactic(auto)]
 
 mod bays;
 mod closed;
+mod copies;
 mod last;
 mod laws;
 mod openings;

@@ -2,9 +2,8 @@
 
 ghost use Rattle.std.specs.Prelude.{◌≡◌, IfOk};
 ghost use Rattle.ctl_words.specs.Plans.{plan_of, IsSound};
-ghost use Rattle.ctl_table.specs.Openings.{opening_at, opening_row, IsCopy};
+ghost use Rattle.ctl_table.specs.Openings.{opening_at, opening_row};
 
-use arrayvec::ArrayVec;
 use ctl_words::Plan;
 use std::alloc::Global;
 use uc_bytes::NoMemory;
@@ -40,30 +39,4 @@ fn opening_at(plan: &Plan, place: u32) -> u64
     } else {
         0
     }
-}
-
-/// The same plan once more. It takes no memory.
-pub fn copied(plan: &Plan) -> Plan
-    ensures { IsCopy plan.now result }
-{
-    Plan {
-        threads: plan.threads,
-        kind: copied_table(&plan.kind),
-        group: copied_table(&plan.group),
-        primary: copied_table(&plan.primary),
-        offer: copied_table(&plan.offer),
-        refuse: copied_table(&plan.refuse),
-        rev0: copied_table(&plan.rev0),
-        patience: plan.patience,
-    }
-}
-
-fn copied_table<T: Copy + Default>(table: &ArrayVec<T, 256>) -> ArrayVec<T, 256>
-    ensures { result.items ≡ table.now.items }
-{
-    let mut copy = ArrayVec::new();
-    for entry in table.as_slice() {
-        copy.push(*entry);
-    }
-    copy
 }

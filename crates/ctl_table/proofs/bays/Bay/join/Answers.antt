@@ -22,6 +22,6 @@ join_seat-requires c =
       ap (λ (m : Me (Unit {0}) View). m.1) theirs.sits,
       omega arith,
       subst (λ (p : Tables). Joins (Holds p) post.seat.id post.seat.me.0 other.seat.id other.seat.me.0 (joined_view post.seat.me.0 other.seat.me.0) Spent) (sym bay.keyed)
-          (join_kept bay.plan post.seat.id post.seat.me.0 (standing_of bay.plan post) other.seat.id other.seat.me.0 (standing_of bay.plan other) bay.sound
+          (join_kept bay.plan.value post.seat.id post.seat.me.0 (standing_of bay.plan.value post) other.seat.id other.seat.me.0 (standing_of bay.plan.value other) bay.sound
           (ap (λ (m : Me (Unit {0}) View). m.0) mine.sits) (ap (λ (m : Me (Unit {0}) View). m.0) theirs.sits) c.requires.first c.requires.ended),
     )

@@ -15,13 +15,13 @@ or_false false = refl
 pub returns-in-Some-clause-patient : goal.returns-in-Some-clause-patient
 returns-in-Some-clause-patient c =
     let took = c.turn.ensures.took in
-    ap gives_up_in took.item ∙ patient_seen _ (quiet (plan_of c.args.self.now.plan) c.args.post.now.thread c.args.post.now.local took.found)
+    ap gives_up_in took.item ∙ patient_seen _ (quiet (plan_of c.args.self.now.plan.value) c.args.post.now.thread c.args.post.now.local took.found)
 
 pub returns-in-None-clause-took : goal.returns-in-None-clause-took
 returns-in-None-clause-took c =
     let post = c.args.post.now in
     let ended = c.in-None.ensures.none.0 refl in
-    let stays = stays_at_end (plan_of c.args.self.now.plan) post.thread post.local Step 0 ended in
+    let stays = stays_at_end (plan_of c.args.self.now.plan.value) post.thread post.local Step 0 ended in
     record {
       found = 0;
       local = sym (ap (λ (x : Local × What). x.0) stays);

@@ -4,6 +4,7 @@ use Rattle.rendezvous_steps.specs.declared.steps.Local.{Local}
 use Rattle.rendezvous_steps.specs.declared.items.What.{What}
 use Rattle.rendezvous_steps.specs.StepTable.{after, is_last}
 use Rattle.rendezvous_steps.specs.Plan.{Plan}
+use Rattle.ctl_words.specs.declared.plans.Plan.{Plan as Tables}
 use Rattle.ctl_words.specs.Plans.{plan_of}
 use Rattle.ctl_thread.proofs.Patient.{idle_is_last}
 use Rattle.ctl_table.specs.declared.standings.Standing.{Standing}
@@ -22,12 +23,13 @@ perform-found-requires g c =
 
 pub returns-clause-took : goal.returns-clause-took
 returns-clause-took g c =
-    let plan : Plan = plan_of c.args.self.now.plan in
+    let plan : Plan = plan_of c.args.self.now.plan.value in
     let post = c.args.post.now in
     let found : ℕ = c.perform-found.result in
     let next : Local × What = after plan post.thread post.local c.args.how found in
-    let goes : c.after-what.result.0 ≡ next.0 = ap (λ (x : Local × What). x.0) c.after-what.ensures in
-    let item : c.of.result ≡ seen_of next.1 = c.of.ensures ∙ ap (λ (x : Local × What). seen_of x.1) c.after-what.ensures in
+    let came : c.after-what.result ≡ next = c.after-what.ensures ∙ ap (λ (p : Tables). after (plan_of p) post.thread post.local c.args.how found) c.deref.ensures in
+    let goes : c.after-what.result.0 ≡ next.0 = ap (λ (x : Local × What). x.0) came in
+    let item : c.of.result ≡ seen_of next.1 = c.of.ensures ∙ ap (λ (x : Local × What). seen_of x.1) came in
     record {
       found = found;
       local = goes;
@@ -45,11 +47,12 @@ returns-clause-ours g c =
     let post = c.args.post.now in
     let ours = c.requires.ours in
     let found : ℕ = c.perform-found.result in
-    let goes : c.after-what.result.0 ≡ (after (plan_of bay.plan) post.thread post.local c.args.how found).0 = ap (λ (x : Local × What). x.0) c.after-what.ensures in
-    let first : (moved_view g.H.Manner.how post.seat.me.0 found, post.seat.me.1) ≡ (Sits (moved g.H.Manner.how (standing_of bay.plan post) found), []) = ap (λ (m : Me (Unit {0}) View). (moved_view g.H.Manner.how m.0 found, m.1)) ours.sits in
+    let came : c.after-what.result ≡ after (plan_of bay.plan.value) post.thread post.local c.args.how found = c.after-what.ensures ∙ ap (λ (p : Tables). after (plan_of p) post.thread post.local c.args.how found) c.deref.ensures in
+    let goes : c.after-what.result.0 ≡ (after (plan_of bay.plan.value) post.thread post.local c.args.how found).0 = ap (λ (x : Local × What). x.0) came in
+    let first : (moved_view g.H.Manner.how post.seat.me.0 found, post.seat.me.1) ≡ (Sits (moved g.H.Manner.how (standing_of bay.plan.value post) found), []) = ap (λ (m : Me (Unit {0}) View). (moved_view g.H.Manner.how m.0 found, m.1)) ours.sits in
     record {
       same_table = c.perform-found.ensures.same.0 ∙ ours.same_table;
-      sits = c.perform-found.ensures.turned ∙ (first ∙ ap (λ (v : Standing). (Sits v, [])) (moved_so (standing_of bay.plan post) c.args.how g.H.Manner.how found c.after-what.result.0 c.late_after-late.result c.requires.how goes c.late_after-late.ensures));
+      sits = c.perform-found.ensures.turned ∙ (first ∙ ap (λ (v : Standing). (Sits v, [])) (moved_so (standing_of bay.plan.value post) c.args.how g.H.Manner.how found c.after-what.result.0 c.late_after-late.result c.requires.how goes c.late_after-late.ensures));
       thread_in_range = ours.thread_in_range;
-      at_in_range = subst (λ (l : Local). l.at < bay.plan.threads) (sym goes) (loop_in_range bay post c.args.how found ours);
+      at_in_range = subst (λ (l : Local). l.at < bay.plan.value.threads) (sym goes) (loop_in_range bay post c.args.how found ours);
     }

@@ -3,7 +3,7 @@ use Rattle.std.proofs.lemmas.List.FromFn.{length-map-range_with_len, map-range_w
 use Rattle.rendezvous_steps.specs.declared.ends.End.{End}
 use Rattle.ctl_core.specs.Moments.{end_in}
 use Rattle.ctl_table.specs.Lasts.{plan_at, words_at}
-use Rattle.ctl_table.proofs.last.Last.ends.Goals as goal
+use Rattle.ctl_table.proofs.last.Last.fill_ends.Goals as goal
 
 pub push-requires : goal.push-requires
 push-requires c =

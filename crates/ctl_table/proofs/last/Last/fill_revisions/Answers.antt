@@ -2,7 +2,7 @@ use Rattle.std.proofs.Common.{ℕ, ◌++◌, [], ◌∷◌, length, ap, sym, ◌
 use Rattle.std.proofs.lemmas.List.FromFn.{length-map-range_with_len, map-range_with_len_more}
 use Rattle.rendezvous_steps.specs.declared.operations.Word.TheVariants.{Rev}
 use Rattle.ctl_table.specs.Lasts.{words_at}
-use Rattle.ctl_table.proofs.last.Last.revisions.Goals as goal
+use Rattle.ctl_table.proofs.last.Last.fill_revisions.Goals as goal
 
 pub push-requires : goal.push-requires
 push-requires c =

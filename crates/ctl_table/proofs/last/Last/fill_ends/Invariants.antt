@@ -2,7 +2,7 @@ use Rattle.std.proofs.Common.{◌≡◌, map}
 use Rattle.std.specs.List.{range_with_len}
 use Rattle.ctl_core.specs.Moments.{end_in}
 use Rattle.ctl_table.specs.Lasts.{plan_at, words_at}
-use Rattle.ctl_table.proofs.last.Last.ends.Given as goal
+use Rattle.ctl_table.proofs.last.Last.fill_ends.Given as goal
 
 -- those of the threads so far
 abbrev pub invariant-loop-thread : goal.invariant-loop-thread
