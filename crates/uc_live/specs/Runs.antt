@@ -1,11 +1,12 @@
 -- What a live run came to.
-use Rattle.std.specs.Prelude.{◌≡◌, Bool, List, [], ◌∷◌, ◌++◌, map, Result, MatchResult}
-use Rattle.uc_bytes.specs.declared.causes.NoMemory.{NoMemory}
+use Rattle.std.specs.Prelude.{◌≡◌, Bool, List, [], ◌∷◌, ◌++◌, map, Result, Ok, Err}
 use Rattle.rendezvous_steps.specs.Plan.{Plan}
 use Rattle.rendezvous_model.specs.Outcome.{Outcome}
 use Rattle.rendezvous_rule.specs.Ran.{Unlisted}
 use Rattle.rendezvous_rule.specs.Runs.{RunOf}
 use Rattle.ctl_core.specs.declared.outcomes.Outcome.{Outcome as Tables}
+use Rattle.ctl_core.specs.declared.runs.RunAnswer.{RunAnswer}
+use Rattle.ctl_core.specs.declared.runs.RunAnswer.TheVariants.{WriteFault, NoMemory}
 use Rattle.ctl_core.specs.Outcomes.{outcome_of}
 use Rattle.ctl_table.specs.declared.closed.Closed.{Closed}
 use Rattle.ctl_table.specs.Closes.{closed_plan, closed_outcome, was_late}
@@ -24,6 +25,8 @@ pub record Held (plan : Plan) (before after' : List RunOf) (outcome : Outcome) :
   pub unlisted : Unlisted plan [] outcome late
   pub kept : after' ≡ before ++ record { plan = plan; outcome = outcome; late = late } ∷ []
 
--- it did, or memory was short and nothing was kept
-abbrev pub HeldTo : Plan → List RunOf → List RunOf → Result Tables NoMemory → Type 0
-HeldTo plan before after' result = MatchResult result (λ o. Held plan before after' (outcome_of o)) (λ _. after' ≡ before)
+-- it did, or memory was short and nothing was kept; nothing is printed, so no write fails
+abbrev pub HeldTo : Plan → List RunOf → List RunOf → Result Tables RunAnswer → Type 0
+HeldTo plan before after' (Ok outcome) = Held plan before after' (outcome_of outcome)
+HeldTo plan before after' (Err WriteFault) = ⊥
+HeldTo plan before after' (Err NoMemory) = after' ≡ before

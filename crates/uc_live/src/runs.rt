@@ -15,7 +15,6 @@ use rendezvous_steps::Beat;
 use std::alloc::Global;
 use std::sync::Wait;
 use std::thread::Threads;
-use uc_bytes::NoMemory;
 use uc_io::Sink;
 
 /// Lets a worker step each thread of a plan, and keeps what each run came to.
@@ -40,13 +39,15 @@ impl<'g, G, R> LiveRun<'g, G, R> {
 
 impl<G: Gate + Sync, R: Threads + Wait> LiveRun<'_, G, R> {
     /// Runs the rendezvous of a plan. All memory is taken before the first step. It answers the outcome of a closed bay
-    /// of this plan, which it keeps, or want of memory.
-    pub fn hold(&mut self, alloc: Global, plan: &Plan) -> Result<Outcome, NoMemory>
+    /// of this plan, which it keeps, or want of memory, and never a write fault.
+    pub fn hold(&mut self, alloc: Global, plan: &Plan) -> Result<Outcome, RunAnswer>
         requires sound { IsSound plan.now }
         requires few { plan.now.threads ≤ 32 }
         ensures { HeldTo (plan_of plan.now) (runs_of self.old) (runs_of self.new) result }
     {
-        self.kept.reserve(1)?;
+        let Ok(()) = self.kept.reserve(1) else {
+            return Err(RunAnswer::NoMemory);
+        };
         let (bay, zero) = Bay::new(alloc, plan)?;
         let zero = work_all(&self.rt, &bay, plan, self.gate, zero);
         let closed = bay.close(zero);
@@ -76,10 +77,7 @@ impl<R: Threads + Wait> Rendezvous for LiveRun<'_, OpenGate, R> {
         _beats: &[Beat],
         _out: &mut S,
     ) -> Result<Outcome, RunAnswer> {
-        match self.hold(alloc, plan) {
-            Ok(outcome) => Ok(outcome),
-            Err(NoMemory) => Err(RunAnswer::NoMemory),
-        }
+        self.hold(alloc, plan)
     }
 
     ghost always_runs = { runs_always line_of false };

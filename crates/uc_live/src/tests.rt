@@ -2,6 +2,7 @@
 
 use crate::{Gate, LiveRun, OpenGate, Point};
 use arrayvec::ArrayVec;
+use ctl_core::RunAnswer;
 use ctl_table::{End, Outcome, Plan, ThreadResult};
 use rendezvous_steps::Kind;
 use std::alloc::Global;
@@ -9,7 +10,6 @@ use std::sync::Wait;
 use std::sync::atomic::{AtomicBool, Ordering};
 use std::test::Fail;
 use std::thread::{Threads, yield_now};
-use uc_bytes::NoMemory;
 
 mod held;
 

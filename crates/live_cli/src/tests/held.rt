@@ -11,7 +11,6 @@ use rendezvous_steps::Beat;
 use std::sync::Wait;
 use std::sync::atomic::{AtomicBool, Ordering};
 use std::thread::{Threads, yield_now};
-use uc_bytes::NoMemory;
 use uc_io::Sink;
 use uc_live::{Gate, Point};
 
@@ -124,7 +123,8 @@ impl<R: Threads + Wait> Rendezvous for StagedRun<'_, '_, R> {
     ) -> Result<Outcome, RunAnswer> {
         match self.live.hold(alloc, plan) {
             Ok(outcome) => Ok(outcome),
-            Err(NoMemory) => Err(RunAnswer::NoMemory),
+            Err(RunAnswer::NoMemory) => Err(RunAnswer::NoMemory),
+            Err(RunAnswer::WriteFault) => unreachable!(),
         }
     }
 

@@ -93,7 +93,7 @@ fn outcome_of<R: Threads + Wait>(
     alloc: Global,
     plan: &Plan,
     stage: &Stage<'_>,
-) -> Result<Outcome, NoMemory>
+) -> Result<Outcome, RunAnswer>
     requires sound { IsSound plan.now }
     requires few { plan.now.threads ≤ 32 }
 {
@@ -108,7 +108,7 @@ fn comes_to<R: Threads + Wait>(
     (second, patience): (Kind, u32),
     holds: &[Hold],
     (decide, ends, revision): (u64, [End; 2], u32),
-) -> Result<bool, NoMemory> {
+) -> Result<bool, RunAnswer> {
     let plan = pairs(1, second, patience);
     if !plan.sound() || plan.threads > 32 {
         return Ok(false);
