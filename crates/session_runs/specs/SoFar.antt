@@ -1,5 +1,5 @@
 -- Commands of a session that were answered, none of which ended it.
-use Rattle.std.specs.Prelude.{◌≡◌, ℕ, Bool, false, List, [], ◌∷◌, ◌++◌}
+use Rattle.std.specs.Prelude.{◌≡◌, Bool, false, List, [], ◌∷◌, ◌++◌}
 use Rattle.uc_io.specs.Writing.{Grew}
 use Rattle.script_text.specs.declared.command.Command.{Command}
 use Rattle.session_steps.specs.State.{Setting, State, opening_state}

@@ -14,7 +14,7 @@ use Rattle.uc_gen.specs.Bundle.{intel_file}
 use Rattle.uc_gen.specs.Tally.{Tallies}
 use Rattle.uc_gen.specs.Texts.{topology_text, script_text}
 use Rattle.gen_laws.specs.Stated.{machine_of, script_of, limits_of as generated_limits}
-use Rattle.file_reads.specs.Reads.{Read, AreHeld}
+use Rattle.file_reads.specs.Reads.{AreHeld}
 use Rattle.rendezvous_rule.specs.Runs.{RunOf}
 use Rattle.script_text.specs.Stated.{Stated}
 use Rattle.script_text.specs.Texts.{States}

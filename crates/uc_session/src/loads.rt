@@ -4,7 +4,6 @@ ghost use Rattle.std.specs.Prelude.{◌≡◌, ◌≤◌, ◌++◌, ℕ, List, O
 ghost use Rattle.uc_io.specs.Writing.{Writes};
 ghost use Rattle.uc_topology.specs.Stated.{group_count};
 ghost use Rattle.rendezvous_rule.specs.Runs.{BeatInRange};
-ghost use Rattle.rendezvous_steps.specs.Padded.{Padded};
 ghost use Rattle.script_text.specs.declared.command.Command.TheVariants.{Load};
 ghost use Rattle.session_text.specs.Lines.{answer_line};
 ghost use Rattle.session_laws.specs.Standing.{Standing};
@@ -17,7 +16,7 @@ ghost use Rattle.ctl_words.specs.Plans.{plan_of, IsSound};
 ghost use Rattle.ctl_core.specs.Outcomes.{outcome_of};
 ghost use Rattle.session_parts.specs.Parts.{setting_of, state_of};
 ghost use Rattle.uc_session.specs.Meeting.{Meets, cut_short};
-ghost use Rattle.uc_session.specs.Playing.{Tells, Does};
+ghost use Rattle.uc_session.specs.Playing.{Does};
 ghost use Rattle.uc_session.specs.Verdicts.{answered};
 
 use crate::playing::tell_load;

@@ -1,6 +1,6 @@
 //! A whole session: the commands of a script, one after another.
 
-ghost use Rattle.std.specs.Prelude.{◌≡◌, ◌≤◌, ◌&&◌, ℕ, true, false, length, MatchOption};
+ghost use Rattle.std.specs.Prelude.{◌≡◌, ◌≤◌, ◌&&◌, true, false, length, MatchOption};
 ghost use Rattle.script_text.specs.Within.{IsWithin};
 ghost use Rattle.session_steps.specs.Session.{answer_by, ended_by, ends_session, is_done};
 ghost use Rattle.session_steps.specs.Calls.{HeldWhere};
