@@ -113,8 +113,8 @@ impl<'a> Core<'a> {
             ends: ArrayVec::new(),
             revs: ArrayVec::new(),
         };
-        self.moment.put_ends(self.plan, &mut outcome.ends);
-        self.moment.put_revisions(self.plan, &mut outcome.revs);
+        self.moment.fill_ends(self.plan, &mut outcome.ends);
+        self.moment.fill_revisions(self.plan, &mut outcome.revs);
         outcome
     }
 

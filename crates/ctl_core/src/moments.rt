@@ -147,7 +147,7 @@ impl Moment {
     }
 
     /// Fills a table with how each thread came out, by its number.
-    pub fn put_ends(&self, plan: &Plan, ends: &mut ArrayVec<End, 256>)
+    pub fn fill_ends(&self, plan: &Plan, ends: &mut ArrayVec<End, 256>)
         requires { IsSound plan.now }
         ensures { ends.new.items ≡ map (end_in (plan_of plan.now) (running_of self.now).words) (threads_from (plan_of plan.now) 0) }
     {
@@ -158,7 +158,7 @@ impl Moment {
     }
 
     /// Fills a table with the running revision of each group.
-    pub fn put_revisions(&self, plan: &Plan, revisions: &mut ArrayVec<u32, 256>)
+    pub fn fill_revisions(&self, plan: &Plan, revisions: &mut ArrayVec<u32, 256>)
         requires fits { Fits (plan_of plan.now) self.now }
         ensures { revisions.new.items ≡ map (λ g. (running_of self.now).words (Rev g)) (range_with_len 0 (plan_of plan.now).groups) }
     {

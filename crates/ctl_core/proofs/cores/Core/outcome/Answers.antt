@@ -6,6 +6,6 @@ pub returns : goal.returns
 returns c =
     record {
       decide = c.decision.ensures ∙ decide_shown _;
-      ends = c.put_ends.ensures;
-      revs = c.put_revisions.ensures;
+      ends = c.fill_ends.ensures;
+      revs = c.fill_revisions.ensures;
     }

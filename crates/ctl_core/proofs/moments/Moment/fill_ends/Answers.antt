@@ -4,7 +4,7 @@ use Rattle.rendezvous_steps.specs.declared.ends.End.{End}
 use Rattle.ctl_words.specs.Plans.{plan_of}
 use Rattle.ctl_words.specs.Lists.{word_of}
 use Rattle.ctl_core.specs.Moments.{end_in}
-use Rattle.ctl_core.proofs.moments.Moment.put_ends.Goals as goal
+use Rattle.ctl_core.proofs.moments.Moment.fill_ends.Goals as goal
 
 pub push-requires : goal.push-requires
 push-requires c =

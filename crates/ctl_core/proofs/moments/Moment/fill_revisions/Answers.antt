@@ -2,7 +2,7 @@ use Rattle.std.proofs.Common.{ℕ, ◌++◌, [], ◌∷◌, length, ap, sym, ◌
 use Rattle.std.proofs.lemmas.List.FromFn.{length-map-range_with_len, map-range_with_len_more}
 use Rattle.rendezvous_steps.specs.declared.operations.Word.TheVariants.{Rev}
 use Rattle.ctl_core.specs.Moments.{running_of}
-use Rattle.ctl_core.proofs.moments.Moment.put_revisions.Goals as goal
+use Rattle.ctl_core.proofs.moments.Moment.fill_revisions.Goals as goal
 
 pub push-requires : goal.push-requires
 push-requires c =
