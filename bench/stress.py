@@ -7,7 +7,7 @@ import tempfile
 
 import page
 
-USED = "rendezvous_steps ctl_words ctl_table uc_live uc_bytes arrayvec"
+USED = "rendezvous_steps ctl_words ctl_core ctl_table uc_live arrayvec"
 PROGRAM = r"""
 //! Lets drawn plans rendezvous at a gate that yields at random, compares what each comes to with what a run may come
 //! to, and prints how often each kind of outcome came. It ends with 1 at the first outcome that no run may have.
@@ -17,6 +17,7 @@ ghost use Rattle.std.specs.Prelude.{◌≤◌};
 ghost use Rattle.ctl_words.specs.Plans.{IsSound};
 
 use arrayvec::ArrayVec;
+use ctl_core::RunAnswer;
 use ctl_table::{End, Outcome, Plan, ThreadResult};
 use rendezvous_steps::Kind;
 use std::alloc::Global;
@@ -24,7 +25,6 @@ use std::process::ExitCode;
 use std::sync::Wait;
 use std::sync::atomic::{AtomicU64, Ordering};
 use std::thread::{Threads, yield_now};
-use uc_bytes::NoMemory;
 use uc_live::{Gate, LiveRun, Point};
 
 const OLD: u32 = 0xb4;
@@ -234,7 +234,7 @@ fn run_one<R: Threads + Wait>(
     alloc: Global,
     plan: &Plan,
     gate: &Restless,
-) -> Result<Outcome, NoMemory>
+) -> Result<Outcome, RunAnswer>
     requires sound { IsSound plan.now }
     requires few { plan.now.threads ≤ 32 }
 {
