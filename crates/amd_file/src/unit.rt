@@ -5,7 +5,7 @@ ghost use Rattle.uc_bytes.specs.declared.TheConstants.{FILE_LIMIT};
 ghost use Rattle.amd_file.specs.declared.progress.Stage.TheVariants.{Head, Next, Rows, Tail, Header, Body};
 ghost use Rattle.amd_file.specs.Stage.{want, most};
 ghost use Rattle.amd_file.specs.Parsing.{IsHeaderOf};
-ghost use Rattle.amd_file.specs.Step.{IsStepFrom, IsEndStep, fault_step, onward_step, table_step, patch_step};
+ghost use Rattle.amd_file.specs.Step.{IsStepFrom, IsEndStep, fault_step, onward_step, table_step};
 
 use crate::container::AmdPatch;
 use crate::family::{is_past_bound, patch_family};

@@ -1,6 +1,6 @@
 //! Where a thread goes next.
 
-ghost use Rattle.std.specs.Prelude.{◌≡◌, ℕ, Option};
+ghost use Rattle.std.specs.Prelude.{◌≡◌, Option};
 ghost use Rattle.rendezvous_steps.specs.StepTable as table;
 ghost use Rattle.ctl_words.specs.Plans.{plan_of};
 

@@ -5,7 +5,7 @@ ghost use Rattle.rendezvous_steps.specs.StepTable as table;
 ghost use Rattle.rendezvous_steps.specs.Plan.{offer_or_rev0};
 ghost use Rattle.rendezvous_steps.specs.StepTable.{exceeds};
 ghost use Rattle.rendezvous_steps.specs.declared.steps.Phase.TheVariants.{Reading, Beginning, Writing, Checking, Reporting, Freeing, SiblingWait, SiblingCheck, SiblingCopy, Withdrawing, Releasing, OfflineCount, OfflineHold, Leaving};
-ghost use Rattle.ctl_words.specs.Plans.{plan_of, IsSound};
+ghost use Rattle.ctl_words.specs.Plans.{plan_of};
 
 use crate::moves::{free_at, polled, to, wait_in, with_result, withdraw_at};
 use crate::next_step::{offer_or_rev0, told, write_of};

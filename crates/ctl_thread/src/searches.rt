@@ -4,7 +4,7 @@ ghost use Rattle.std.specs.Prelude.{◌≡◌, ◌==◌, ◌+◌, ◌<◌, ◌�
 ghost use Rattle.std.specs.List.{list_any, slice_get};
 ghost use Rattle.rendezvous_steps.specs.Plan.{is_sibling, offline_from, sibling_from};
 ghost use Rattle.rendezvous_steps.specs.Plan.{offline_count};
-ghost use Rattle.ctl_words.specs.Plans.{plan_of, IsSound};
+ghost use Rattle.ctl_words.specs.Plans.{plan_of};
 
 use crate::turns::Turn;
 use ctl_words::Plan;

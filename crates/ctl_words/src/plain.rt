@@ -1,8 +1,8 @@
 //! Control words in plain lists.
 
-ghost use Rattle.std.specs.Prelude.{◌≡◌, ◌+◌, ◌*◌, IfOk, IsTrue, replicate, slice_index};
+ghost use Rattle.std.specs.Prelude.{◌≡◌, ◌*◌, IfOk, IsTrue, replicate, slice_index};
 ghost use Rattle.std.specs.Prelude.{◌<◌};
-ghost use Rattle.rendezvous_steps.specs.Words.{touched, words_after, opening_words};
+ghost use Rattle.rendezvous_steps.specs.Words.{opening_words};
 ghost use Rattle.ctl_words.specs.Plans.{plan_of, IsSound};
 ghost use Rattle.ctl_words.specs.Places.{is_word};
 ghost use Rattle.ctl_words.specs.Lists.{has_word, word_of, with_word};

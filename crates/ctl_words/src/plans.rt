@@ -1,6 +1,6 @@
 //! The plan of a load.
 
-ghost use Rattle.std.specs.Prelude.{◌≡◌, ℕ, ◌+◌, ◌*◌, ◌<◌, ◌≤◌, ◌↔◌, length, IsTrue};
+ghost use Rattle.std.specs.Prelude.{◌≡◌, ◌+◌, ◌*◌, ◌<◌, ◌≤◌, ◌↔◌, IsTrue};
 ghost use Rattle.rendezvous_steps.specs.declared.steps.Kind.TheVariants.{Online};
 ghost use Rattle.rendezvous_steps.specs.Plan.{online_count, offline_count};
 ghost use Rattle.rendezvous_steps.specs.declared.operations.Word.{Word as WordName};

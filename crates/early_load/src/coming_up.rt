@@ -1,13 +1,13 @@
 //! Threads that come up.
 
-ghost use Rattle.std.specs.Prelude.{◌≡◌, ℕ, ◌<◌, ◌≤◌, true, Ok, Err, MatchResult, None, Some, if◌then◌else◌};
-ghost use Rattle.machine_steps.specs.Hardware.{is_on, is_cold, all_cold, with_rev};
+ghost use Rattle.std.specs.Prelude.{◌≡◌, ℕ, ◌<◌, true, Ok, Err, MatchResult, None, Some, if◌then◌else◌};
+ghost use Rattle.machine_steps.specs.Hardware.{is_on, is_cold};
 ghost use Rattle.machine_steps.specs.Calls.{may_come_up};
 ghost use Rattle.machine_steps.specs.BringUps.{above, revision, brought, bring_up, bring_up_each, resume};
 ghost use Rattle.machine_steps.specs.Puts.{patch_at};
 ghost use Rattle.hw_machine.specs.Machine.{setting_of, hardware_of};
 ghost use Rattle.patch_pool.specs.Pool.{patches_of};
-ghost use Rattle.early_load.specs.Caches.{groups_of, cached_of, cached_patches, CachesHold, HoldsPatch};
+ghost use Rattle.early_load.specs.Caches.{groups_of, cached_of, cached_patches, CachesHold};
 ghost use Rattle.early_load.specs.Wanted.{wants, wanted_threads};
 
 use crate::cache::PatchCache;

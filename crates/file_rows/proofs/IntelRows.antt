@@ -1,13 +1,10 @@
 -- The rows of an Intel file's updates stand for its entries.
-use Rattle.std.proofs.Common.{◌≡◌, inl, inr, ℕ, zero, suc, ◌+◌, ◌*◌, ◌≤◌, Bool, true, false, List, [], ◌∷◌, ◌++◌, length, take, drop, map, refl, sym, ◌∙◌, ap, subst, arith, append_assoc, length-append, length-drop}
+use Rattle.std.proofs.Common.{◌≡◌, ℕ, zero, suc, ◌+◌, ◌≤◌, Bool, true, false, List, [], ◌∷◌, ◌++◌, length, take, map, refl, sym, ◌∙◌, ap, subst, arith, append_assoc, length-append}
 use Rattle.uc_bytes.specs.declared.TheConstants.{FILE_LIMIT}
 use Rattle.std.specs.Prelude.{All, IsTrue}
 use Rattle.std.proofs.lemmas.List.{drop_at, take_at, append-nil}
 use Rattle.std.proofs.lemmas.List.Elements.{All-nil, All-cons}
-use Rattle.std.proofs.lemmas.List.FromFn.{length-map-range_with_len}
 use Rattle.std.proofs.lemmas.Bool.{false≢true}
-use Rattle.intel_format.specs.Header.{data_len}
-use Rattle.intel_format.specs.Update.{IsIntelUpdate, pair_at, entry_count}
 use Rattle.intel_format.specs.File.{FileUpdate, AreUpdates, IntelFile, joined}
 use Rattle.file_entries.specs.Entry.{Entry, update_entry, entries_of_updates}
 use Rattle.file_rows.specs.declared.updates.UpdateRow.{UpdateRow}

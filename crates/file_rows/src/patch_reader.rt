@@ -20,7 +20,7 @@ pub struct PatchReader {
 }
 
 impl PatchReader {
-    ghost use Rattle.std.specs.Prelude.{◌≡◌, ◌+◌, ◌++◌, ℕ, List, []};
+    ghost use Rattle.std.specs.Prelude.{◌≡◌, ◌+◌, ℕ, List, []};
     ghost use Rattle.file_rows.specs.PatchReading.{Reads, IsFed, IsFinished, fed_of};
 
     /// A reader to which nothing came.

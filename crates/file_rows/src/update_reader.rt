@@ -20,7 +20,7 @@ pub struct UpdateReader {
 }
 
 impl UpdateReader {
-    ghost use Rattle.std.specs.Prelude.{◌≡◌, ◌+◌, ◌++◌, ℕ, List, [], IfOk};
+    ghost use Rattle.std.specs.Prelude.{◌≡◌, ◌+◌, ℕ, List, [], IfOk};
     ghost use Rattle.file_rows.specs.UpdateReading.{Reads, IsFed, IsFinished};
 
     /// A reader to which nothing came.

@@ -1,5 +1,4 @@
 //! The rule of the command line.
-ghost use Rattle.std.specs.Prelude.{◌≡◌};
 ghost use Rattle.live_cli.specs.Words.{Asks, live_asked};
 
 use uc_bytes::Text;

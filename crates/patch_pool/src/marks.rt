@@ -1,5 +1,5 @@
 //! The free blocks as one mark for each block.
-ghost use Rattle.std.specs.Prelude.{◌≡◌, ◌<◌, ◌≤◌, ◌+◌, ℕ, Bool, true, vec_len, replicate, IfOk, if◌then◌else◌};
+ghost use Rattle.std.specs.Prelude.{◌≡◌, ◌<◌, ◌≤◌, ◌+◌, ℕ, true, vec_len, replicate, IfOk, if◌then◌else◌};
 ghost use Rattle.std.specs.List.{list_all, range_with_len};
 ghost use Rattle.patch_pool.specs.Free.{IsTaken, IsGivenBack, IsLongest, is_within, lowest_of};
 ghost use Rattle.patch_pool.specs.Marks.{is_marked};

@@ -1,5 +1,5 @@
 //! The memory of a region, with the length of the patch that begins at each block.
-ghost use Rattle.std.specs.Prelude.{◌≡◌, ◌<◌, ◌≤◌, ◌+◌, ◌*◌, ◌/◌, ℕ, true, Some, length, take, drop, replicate, slice_index, count_by, vec_len, vec_capacity, IfOk};
+ghost use Rattle.std.specs.Prelude.{◌≡◌, ◌<◌, ◌≤◌, ◌+◌, ◌*◌, ◌/◌, true, Some, length, take, drop, replicate, count_by, vec_len, vec_capacity, IfOk};
 ghost use Rattle.region_steps.specs.Region.{no_patches, begins_at, blocks_of, width, is_free_run, put_at, take_out, held};
 ghost use Rattle.patch_pool.specs.Bytes.{begins, patches_in, copied_over, EndInside};
 

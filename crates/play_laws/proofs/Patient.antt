@@ -25,7 +25,7 @@ use Rattle.rendezvous_steps.specs.Events.{Running, put, happens, opening_running
 use Rattle.rendezvous_model.specs.Round.{State, Cause, Step, Timeout, Run, Place, Out, In, Left, Halted, Withdrawn, Absent, Stage, Gathering, Going, DroppedByKick, DroppedBy, nobody, is_dropped, is_halted, is_held, is_unfinished, opening_place, opening_state}
 use Rattle.rendezvous_model.specs.RoundStep.{RoundBy, cause_of, thread_of}
 use Rattle.rendezvous_model.specs.Outcome.{Outcome, OutcomeShows, end_of, decide_of}
-use Rattle.rendezvous_model.specs.Verdict.{LoadVerdict, Done, end_at, halted_at, unfinished_at, refused_at, left_with_error}
+use Rattle.rendezvous_model.specs.Verdict.{end_at, refused_at, left_with_error}
 use Rattle.rendezvous_model.specs.Verdict as verdict
 use Rattle.rendezvous_rule.specs.Shown.{shown_by}
 use Rattle.rendezvous_rule.specs.View.{views}

@@ -1,5 +1,5 @@
 -- A run with its plan and what it came to, and the beats that a plan can be run over.
-use Rattle.std.specs.Prelude.{◌≡◌, ℕ, ◌<◌, ◌≤◌, Bool, List, slice_index}
+use Rattle.std.specs.Prelude.{ℕ, ◌<◌, ◌≤◌, Bool, List, slice_index}
 use Rattle.rendezvous_steps.specs.declared.items.Item.{Item}
 use Rattle.rendezvous_steps.specs.declared.ends.Beat.{Beat}
 use Rattle.rendezvous_steps.specs.declared.ends.Beat.TheVariants.{Step, Timeout, Nmi, Run, Rounds}

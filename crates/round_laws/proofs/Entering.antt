@@ -18,7 +18,7 @@ use Rattle.rendezvous_steps.specs.Words.{Families, families}
 use Rattle.rendezvous_steps.specs.StepTable.{operation, after, number_of, entered, loop_at, to, enter_operation, after_outside}
 use Rattle.rendezvous_steps.specs.Events.{Running, put, steps}
 use Rattle.rendezvous_model.specs.Round as round
-use Rattle.rendezvous_model.specs.Round.{Place, Out, In, Left, Halted, Withdrawn, Absent, GroupPlace, Waiting, Stage, State, nobody}
+use Rattle.rendezvous_model.specs.Round.{Place, Out, In, Withdrawn, Waiting, Stage, State, nobody}
 use Rattle.rendezvous_model.specs.RoundItems.{Enters, may_enter}
 use Rattle.rendezvous_model.specs.RoundEnds.{Idles, may_idle, for_kick}
 use Rattle.rendezvous_rule.specs.View.{View, view, views}

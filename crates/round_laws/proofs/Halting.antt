@@ -17,7 +17,7 @@ use Rattle.rendezvous_steps.specs.Words.{Families, families, touched, words_afte
 use Rattle.rendezvous_steps.specs.StepTable.{operation, after, to, polled, by_release}
 use Rattle.rendezvous_steps.specs.Events.{Running, put, steps}
 use Rattle.rendezvous_model.specs.Round as round
-use Rattle.rendezvous_model.specs.Round.{Place, Out, In, Left, Halted, Withdrawn, Absent, GroupPlace, Waiting, Writing, Written, Reported, Stage, Going, State, nobody}
+use Rattle.rendezvous_model.specs.Round.{In, Halted, Withdrawn, GroupPlace, Reported, Stage, Going, State, nobody}
 use Rattle.rendezvous_model.specs.RoundEnds.{Halts, may_halt, for_primary, to_be_freed}
 use Rattle.rendezvous_rule.specs.View.{View, view, views, is_timeout}
 use Rattle.rendezvous_rule.specs.Seen.{seen, words_of, mode_code, ctrl_code, nmi_code, release_code, writes_now}

@@ -12,7 +12,7 @@ use Rattle.rendezvous_steps.specs.Words.{Families, families}
 use Rattle.rendezvous_steps.specs.StepTable.{operation, after, drop_path, polled, to}
 use Rattle.rendezvous_steps.specs.Events.{Running, steps}
 use Rattle.rendezvous_model.specs.Round as round
-use Rattle.rendezvous_model.specs.Round.{In, Stage, Gathering, Going, DroppedByKick, DroppedBy, State, nobody, is_dropped, offline_arrived}
+use Rattle.rendezvous_model.specs.Round.{Stage, Gathering, Going, DroppedByKick, DroppedBy, nobody, is_dropped, offline_arrived}
 use Rattle.rendezvous_model.specs.RoundItems.{DropsByKick}
 use Rattle.rendezvous_model.specs.RoundEnds.{for_offline}
 use Rattle.rendezvous_rule.specs.View.{View, view, views}

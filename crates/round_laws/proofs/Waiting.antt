@@ -16,7 +16,7 @@ use Rattle.rendezvous_steps.specs.Padded.{Padded}
 use Rattle.rendezvous_steps.specs.Words.{Families, families, touched, words_after}
 use Rattle.rendezvous_steps.specs.StepTable.{operation, after, after_in, go_path, drop_path, polled, by_decision}
 use Rattle.rendezvous_steps.specs.Events.{Running, steps}
-use Rattle.rendezvous_model.specs.Round.{In, Stage, Gathering, Going, DroppedByKick, DroppedBy, State, nobody, is_dropped, is_gathering}
+use Rattle.rendezvous_model.specs.Round.{Stage, Gathering, Going, DroppedByKick, DroppedBy, State, nobody, is_dropped, is_gathering}
 use Rattle.rendezvous_model.specs.Round as round
 use Rattle.rendezvous_model.specs.RoundItems.{Drops}
 use Rattle.rendezvous_model.specs.RoundEnds.{for_decision}

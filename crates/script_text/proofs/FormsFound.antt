@@ -1,5 +1,5 @@
 -- The forms that lines are found to have.
-use Rattle.std.proofs.Common.{◌≡◌, ◌≢◌, ◌≤◌, ℕ, Bool, true, false, cond, ◌&&◌, List, [], ◌∷◌, length, drop, Option, Some, None, refl, sym, ap, ◌∙◌}
+use Rattle.std.proofs.Common.{◌≡◌, ◌≢◌, ◌≤◌, ℕ, Bool, true, false, cond, List, [], ◌∷◌, length, drop, Some, refl, sym, ap, ◌∙◌}
 use Rattle.std.specs.List.{find, list_all}
 use Rattle.std.specs.Str.{is_utf8}
 use Rattle.std.proofs.lemmas.Bool.{leb-true, and_parts}
@@ -8,7 +8,7 @@ use Rattle.script_text.specs.declared.forms.Form.{Form}
 use Rattle.script_text.specs.declared.forms.Form.TheVariants as form
 use Rattle.script_text.specs.declared.forms.Place.{Place}
 use Rattle.script_text.specs.declared.forms.Place.TheVariants.{Front, Top, AfterPool, Commands, InLoad}
-use Rattle.script_text.specs.Forms.{forms, has_form, form_of, have_form, are_names}
+use Rattle.script_text.specs.Forms.{forms, has_form, form_of, are_names}
 
 -- what is found passes, and is as all are that it was found among
 module _ {X : Type 0} (p q : X → Bool) where

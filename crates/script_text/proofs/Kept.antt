@@ -1,10 +1,9 @@
 -- Each line keeps to the limits, so that the whole script does.
-use Rattle.std.proofs.Common.{◌≡◌, ◌≢◌, ◌+◌, ◌<◌, ◌≤◌, ℕ, Bool, true, false, not, ◌&&◌, List, [], ◌∷◌, ◌++◌, length, drop, Option, Some, None, refl, sym, ap, subst, ◌∙◌, arith}
+use Rattle.std.proofs.Common.{◌≡◌, ◌+◌, ◌<◌, ◌≤◌, ℕ, Bool, true, false, not, List, [], ◌∷◌, ◌++◌, length, drop, Option, Some, refl, sym, subst, ◌∙◌, arith}
 use Rattle.std.specs.List.{list_all}
 use Rattle.std.proofs.lemmas.Bool.{leb-true, leb-false, ltb-true, ltb-false, le-leb, and_parts, and_from, false_from_ne_true}
 use Rattle.std.proofs.lemmas.List.{length_push}
 use Rattle.std.proofs.lemmas.List.Folds.{list_all-append}
-use Rattle.first_fault.specs.Checks.{AllPass}
 use Rattle.uc_text.specs.Lines.{counted_lines, words_of}
 use Rattle.script_text.specs.declared.command.Command.{Command}
 use Rattle.script_text.specs.declared.command.Command.TheVariants as command
@@ -12,13 +11,12 @@ use Rattle.script_text.specs.declared.fault.ScriptCause.TheVariants.{Range, TooM
 use Rattle.script_text.specs.declared.forms.Form.{Form}
 use Rattle.script_text.specs.declared.forms.Form.TheVariants as form
 use Rattle.script_text.specs.declared.forms.Limits.{Limits}
-use Rattle.script_text.specs.declared.forms.Place.{Place}
-use Rattle.script_text.specs.declared.forms.Place.TheVariants.{Front, Top, AfterPool, Commands, InLoad}
+use Rattle.script_text.specs.declared.forms.Place.TheVariants.{InLoad}
 use Rattle.script_text.specs.Stated.{Stated}
 use Rattle.script_text.specs.Forms.{form_of}
-use Rattle.script_text.specs.Stands.{Before, opening, after, with_command, with_load, second, beats_of, script_of}
-use Rattle.script_text.specs.Within.{IsWithin, fits_command, fits_beat, events_of}
-use Rattle.script_text.specs.Checks.{checks, fails_at, in_range, is_too_many}
+use Rattle.script_text.specs.Stands.{Before, opening, after, with_command, with_load, second, beats_of}
+use Rattle.script_text.specs.Within.{IsWithin, fits_command, fits_beat}
+use Rattle.script_text.specs.Checks.{fails_at, in_range, is_too_many}
 use Rattle.script_text.specs.Texts.{Adds, InTurn, States}
 use Rattle.script_text.proofs.FormsFound.{AreNames, form_passes, only_inside, boot_names, load_names, force_names}
 

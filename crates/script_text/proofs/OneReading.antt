@@ -1,8 +1,7 @@
 -- Reading gives what the text states, or its first fault, and nothing else.
 use Rattle.std.proofs.Common.{◌≡◌, ◌≢◌, ℕ, Bool, true, false, cond, not, List, [], ◌∷◌, ◌++◌, Option, Some, None, Result, Ok, Err, refl, sym, ap, subst, ◌∙◌, ◌⊎◌, inl, inr}
-use Rattle.std.specs.Prelude.{MatchResult, IfOk, IfErr}
-use Rattle.first_fault.specs.Checks.{AllPass, IsFirst, first_of}
-use Rattle.first_fault.proofs.Search.{FailsBy, first-from_find, pass-from_find, find-from_first, find-from_pass}
+use Rattle.first_fault.specs.Checks.{IsFirst, first_of}
+use Rattle.first_fault.proofs.Search.{first-from_find, pass-from_find, find-from_first, find-from_pass}
 use Rattle.uc_text.specs.Lines.{counted_lines, words_of}
 use Rattle.script_text.specs.declared.fault.ScriptCause.{ScriptCause}
 use Rattle.script_text.specs.declared.fault.ScriptCause.TheVariants.{Head, Word, NoEnd}
@@ -17,7 +16,7 @@ use Rattle.script_text.specs.Forms.{form_of}
 use Rattle.script_text.specs.Stands.{Before, opening, after, script_of}
 use Rattle.script_text.specs.Checks.{checks, fails, fails_at, is_front}
 use Rattle.script_text.specs.Texts.{LineFails, Adds, InTurn, FaultAtLine, NoLine, LoadWithoutEnd, States, FirstFault}
-use Rattle.script_text.specs.Reading.{added, unless_found, after_form, after_line, finished, finished_at, go_on, read_on, reading}
+use Rattle.script_text.specs.Reading.{added, unless_found, after_line, finished, finished_at, go_on, read_on, reading}
 
 -- ---- results
 

@@ -5,7 +5,7 @@ ghost use Rattle.uc_topology.specs.Stated.{group_count, IsPartition};
 ghost use Rattle.machine_steps.specs.Hardware.{setting_of as stated_setting};
 ghost use Rattle.hw_machine.specs.Machine.{setting_of as machine_setting};
 ghost use Rattle.patch_pool.specs.Pool.{patches_of, blocks_in};
-ghost use Rattle.early_load.specs.Caches.{groups_of, cached_of, first_block};
+ghost use Rattle.early_load.specs.Caches.{groups_of, first_block};
 ghost use Rattle.session_steps.specs.State.{opening_state};
 
 use early_load::PatchCache;

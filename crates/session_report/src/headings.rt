@@ -1,5 +1,5 @@
 //! The heading of a command.
-ghost use Rattle.std.specs.Prelude.{◌≡◌, ◌≤◌, length};
+ghost use Rattle.std.specs.Prelude.{◌≡◌};
 ghost use Rattle.uc_io.specs.Writing.{Writes};
 ghost use Rattle.session_text.specs.Lines.{command_line, number_text};
 ghost use Rattle.session_steps.specs.Session.{heading, number_in, word_of};

@@ -1,5 +1,5 @@
 //! The lines between a heading and its answer.
-ghost use Rattle.std.specs.Prelude.{◌≡◌, ◌≤◌, length};
+ghost use Rattle.std.specs.Prelude.{◌≡◌};
 ghost use Rattle.uc_io.specs.Writing.{Writes};
 ghost use Rattle.report_text.specs.Lines.{safe_text};
 ghost use Rattle.item_text.specs.Items.{result_text};

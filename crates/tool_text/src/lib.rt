@@ -14,7 +14,6 @@ ghost use Rattle.tool_text.specs.Ends.{TextsHaveCauses};
 ghost use Rattle.tool_text.specs.Headline.{TextsHold};
 ghost use Rattle.tool_text.specs.Plays.{PlayText, GenText};
 ghost use Rattle.tool_text.specs.Tool.{ToolText, FromReads, DoneWhereItCan};
-ghost use Rattle.tool_text.specs.Words.{asked};
 
 use command_laws::{each_command_does_something, what_a_load_leaves};
 use gen_laws::{generated_script_is_read, generated_topology_is_read};

@@ -1,14 +1,12 @@
 -- A file behind those that stand.
-use Rattle.std.proofs.Common.{◌≡◌, ℕ, ◌+◌, ◌<◌, ◌≤◌, Bool, true, false, Option, List, [], ◌∷◌, ◌++◌, length, map, refl, sym, ◌∙◌, ap, subst, arith, length-append}
+use Rattle.std.proofs.Common.{◌≡◌, ℕ, ◌+◌, ◌<◌, Bool, Option, List, [], ◌∷◌, ◌++◌, length, map, refl, sym, ◌∙◌, ap, subst, arith, length-append}
 use Rattle.std.specs.Prelude.{All}
-use Rattle.std.proofs.lemmas.Bool.{false≢true}
-use Rattle.std.proofs.lemmas.Bool.Decides.{nat_tests}
 use Rattle.std.proofs.lemmas.List.{length-map, map_push, append-nil}
 use Rattle.std.proofs.lemmas.List.Elements.{All-nil, All-cons, All-append}
 use Rattle.uc_bytes.specs.declared.causes.Vendor.TheVariants.{Intel, Amd}
 use Rattle.intel_format.specs.File.{FileUpdate, IntelFile}
 use Rattle.amd_format.specs.File.{FileContainer, AmdFile, patches_in}
-use Rattle.file_entries.specs.Reading.{Reading, OfIntel, OfAmd, IsAmd, IsReading}
+use Rattle.file_entries.specs.Reading.{Reading, OfIntel, OfAmd, IsReading}
 use Rattle.file_entries.specs.Entry.{Entry, entries_of}
 use Rattle.file_rows.specs.declared.rows.FileRows.{FileRows}
 use Rattle.file_rows.specs.declared.rows.FileRows.TheVariants.{Updates, Patches}
@@ -18,7 +16,7 @@ use Rattle.file_rows.specs.declared.updates.UpdateRow.{UpdateRow}
 use Rattle.file_rows.specs.declared.updates.UpdateRows.{UpdateRows}
 use Rattle.file_rows.specs.declared.patches.PatchRow.{PatchRow}
 use Rattle.file_rows.specs.declared.patches.PatchRows.{PatchRows}
-use Rattle.uc_catalog.specs.Contents.{FileSum, Contents, sum_of, kept, kept_bytes, Adds}
+use Rattle.uc_catalog.specs.Contents.{FileSum, sum_of, kept, kept_bytes, Adds}
 use Rattle.file_rows.specs.UpdateRows.{entry_of_update, AreUpdateRows}
 use Rattle.file_rows.specs.PatchRows.{entry_of_patch, ArePatchRows}
 use Rattle.file_rows.specs.FileRows.{entries_of_rows, StandRows, AreRowsOf, HasFewPairs}

@@ -1,11 +1,10 @@
 -- Entries as they are kept tell what the entries do.
-use Rattle.std.proofs.Common.{◌≡◌, ℕ, zero, suc, ◌<◌, ◌≤◌, Bool, true, List, [], ◌∷◌, length, get_or, map, refl, sym, ◌∙◌, ap, subst, arith}
+use Rattle.std.proofs.Common.{◌≡◌, ℕ, zero, suc, Bool, true, List, [], ◌∷◌, get_or, map, refl, sym, ◌∙◌, ap, subst, arith}
 use Rattle.std.specs.Prelude.{Option, Some, None, slice_get}
 use Rattle.std.specs.Option.{option_map}
 use Rattle.std.proofs.lemmas.Option.{slice_get-map}
 use Rattle.uc_bytes.specs.declared.causes.Vendor.{Vendor}
 use Rattle.uc_bytes.specs.declared.causes.Vendor.TheVariants.{Intel, Amd}
-use Rattle.file_entries.specs.declared.facts.EntryFacts.{EntryFacts}
 use Rattle.file_entries.specs.declared.facts.CoreFacts.{CoreFacts}
 use Rattle.file_entries.specs.Entry.{Entry, patch_entry}
 use Rattle.file_entries.specs.Selection.{IsServed, FitsOf, IsSafe, Admissible, IsBest, IsOffer}

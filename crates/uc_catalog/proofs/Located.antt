@@ -2,15 +2,15 @@
 use Rattle.std.proofs.Common.{◌≡◌, ℕ, zero, suc, ◌+◌, ◌*◌, ◌-◌, ◌<◌, ◌≤◌, Bool, Option, List, [], ◌∷◌, ◌++◌, length, get_or, map, take, drop, refl, sym, ◌∙◌, ap, subst, arith, length-append, append_assoc}
 use Rattle.std.specs.Prelude.{All, sum_by}
 use Rattle.std.proofs.Math.Seq.{drop-cons}
-use Rattle.std.proofs.lemmas.List.{length-map, get_or_append_left, get_or-append-add, get_or-map, get_or_default, map-append, take_more, append-nil}
+use Rattle.std.proofs.lemmas.List.{length-map}
 use Rattle.std.proofs.lemmas.List.Sums.{sum_by-cons}
-use Rattle.std.proofs.lemmas.List.Elements.{All-head, All-tail, All-append, All-cons, All-nil}
+use Rattle.std.proofs.lemmas.List.Elements.{All-head, All-tail}
 use Rattle.file_entries.specs.Entry.{Entry}
 use Rattle.file_rows.specs.declared.rows.FileRows.{FileRows}
 use Rattle.file_rows.specs.declared.rows.FileRows.TheVariants.{Updates, Patches}
 use Rattle.uc_catalog.specs.declared.coming.Coming.{Coming}
 use Rattle.uc_catalog.specs.declared.file.KeptFile.{KeptFile}
-use Rattle.uc_catalog.specs.Contents.{FileSum, Contents, IsCounted, file_at}
+use Rattle.uc_catalog.specs.Contents.{FileSum, IsCounted}
 use Rattle.file_rows.specs.UpdateRows.{entry_of_update}
 use Rattle.file_rows.specs.PatchRows.{entry_of_patch}
 use Rattle.file_rows.specs.FileRows.{count_of, entries_of_rows, StandRows}

@@ -1,7 +1,7 @@
 -- What an entry is, by the row at its place.
-use Rattle.std.proofs.Common.{◌≡◌, ℕ, ◌+◌, ◌<◌, ◌≤◌, Bool, true, Option, None, List, [], ◌∷◌, length, get_or, map, refl, sym, ◌∙◌, ap, subst, arith}
-use Rattle.std.specs.Prelude.{All, IsTrue}
-use Rattle.std.proofs.lemmas.List.{length-map, get_or-map, get_or_default}
+use Rattle.std.proofs.Common.{◌≡◌, ℕ, ◌+◌, ◌<◌, ◌≤◌, Bool, None, List, [], length, get_or, map, sym, ◌∙◌, ap, subst}
+use Rattle.std.specs.Prelude.{IsTrue}
+use Rattle.std.proofs.lemmas.List.{get_or-map}
 use Rattle.file_entries.specs.Entry.{Entry, patch_entry}
 use Rattle.file_rows.specs.declared.rows.FileRows.{FileRows}
 use Rattle.file_rows.specs.declared.rows.FileRows.TheVariants.{Updates, Patches}
@@ -11,11 +11,11 @@ use Rattle.file_rows.specs.declared.updates.UpdateRow.{UpdateRow}
 use Rattle.file_rows.specs.declared.updates.UpdateRows.{UpdateRows}
 use Rattle.file_rows.specs.declared.patches.PatchRow.{PatchRow}
 use Rattle.file_rows.specs.declared.patches.PatchRows.{PatchRows}
-use Rattle.uc_catalog.specs.Contents.{Contents, entry_at}
+use Rattle.uc_catalog.specs.Contents.{entry_at}
 use Rattle.file_rows.specs.UpdateRows.{own_of, entry_of_update}
 use Rattle.file_rows.specs.PatchRows.{entry_of_patch}
 use Rattle.file_rows.specs.FileRows.{no_update, no_patch, count_of, extent_of, entries_of_rows, StandRows, StandUpdates, StandPatches}
-use Rattle.uc_catalog.specs.Files.{entries_of_file, entries_in, contents_of, IsPlace, AreKept}
+use Rattle.uc_catalog.specs.Files.{entries_of_file, contents_of, IsPlace, AreKept}
 
 abbrev none : Entry
 none = patch_entry 0 0 [] []

@@ -1,5 +1,5 @@
 //! The place of an entry among files.
-ghost use Rattle.std.specs.Prelude.{◌≡◌, ◌<◌, ◌≤◌, All, length, slice_get, slice_index_or};
+ghost use Rattle.std.specs.Prelude.{◌<◌, ◌≤◌, All, length};
 ghost use Rattle.file_rows.specs.FileRows.{count_of};
 ghost use Rattle.uc_catalog.specs.Files.{entries_in, IsPlace};
 

@@ -1,10 +1,10 @@
 -- What a generated session wrote, and why it ended.
-use Rattle.std.proofs.Common.{◌≡◌, ℕ, ◌+◌, ◌-◌, ◌*◌, ◌<◌, ◌≤◌, ◌^◌, Bool, true, false, if◌then◌else◌, List, [], ◌∷◌, ◌++◌, length, Option, Some, None, IsSome, inl, inr, refl, sym, ◌∙◌, ap, subst, arith, length-append}
-use Rattle.std.specs.Prelude.{codes, decimal, min, take, count_by}
+use Rattle.std.proofs.Common.{◌≡◌, ℕ, ◌-◌, ◌^◌, List, [], ◌∷◌, Option, None, refl, ◌∙◌, ap, subst}
+use Rattle.std.specs.Prelude.{codes, decimal, min, count_by}
 use Rattle.uc_text.specs.Lines.{is_line_feed}
 use Rattle.uc_gen.specs.declared.tally.TallySink.{TallySink}
-use Rattle.uc_gen.specs.Tally.{lines_of, last_of, last_line, Tallies}
-use Rattle.file_reads.specs.Reads.{Read, AreHeld}
+use Rattle.uc_gen.specs.Tally.{last_of, Tallies}
+use Rattle.file_reads.specs.Reads.{Read}
 use Rattle.file_reads.proofs.Outcomes.{held_nil}
 use Rattle.report_text.specs.Lines.{joined}
 use Rattle.top_call.specs.declared.status.Status.{Status}

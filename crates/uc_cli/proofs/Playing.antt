@@ -1,7 +1,6 @@
 -- What a session that was played wrote, and why it ended.
-use Rattle.std.proofs.Common.{◌≡◌, ◌⊎◌, inl, inr, ℕ, ◌+◌, ◌≤◌, Bool, true, false, List, [], ◌∷◌, ◌++◌, length, Option, Some, None, Err, IsSome, refl, sym, ◌∙◌, ap, subst, arith, append_assoc}
+use Rattle.std.proofs.Common.{◌≡◌, inl, inr, ℕ, ◌+◌, true, List, [], ◌∷◌, ◌++◌, length, Option, Err, IsSome, refl, sym, ◌∙◌, ap, subst, append_assoc}
 use Rattle.std.specs.Prelude.{IsTrue}
-use Rattle.std.proofs.lemmas.Bool.{false≢true}
 use Rattle.std.proofs.lemmas.List.{append-nil}
 use Rattle.uc_io.specs.Faults.{Rose}
 use Rattle.uc_io.specs.Writing.{Grew}
@@ -19,10 +18,10 @@ use Rattle.session_steps.specs.Did.{Did}
 use Rattle.session_steps.specs.Session.{Steps, texts_from, all_reads, session_answer}
 use Rattle.session_steps.specs.Calls.{Outside, HeldWhere, Surroundings}
 use Rattle.session_steps.specs.Played.{FileCause}
-use Rattle.session_steps.specs.Whole.{is_unread, MayPlay, PlaysWhole, PlaysFront, IsPlayedThrough}
+use Rattle.session_steps.specs.Whole.{is_unread, PlaysWhole, PlaysFront, IsPlayedThrough}
 use Rattle.top_call.specs.declared.status.Status.{Status}
 use Rattle.top_call.specs.declared.status.Status.TheVariants as statuses
-use Rattle.top_call.specs.Causes.{ReadCause, WriteCause}
+use Rattle.top_call.specs.Causes.{ReadCause}
 use Rattle.top_call.specs.Written.{memory_line, GoesWith, HasText, WroteText, StartsText, Written, Ends}
 use Rattle.tool_text.specs.Plays.{limits_of, setting_of, status_of, unread_after, PlayText}
 use Rattle.tool_text.specs.Tool.{FromReads}

@@ -1,9 +1,9 @@
 -- No text of `list`, `show`, `select` or faulty words has the status of a session that is short or in which a thread panics.
-use Rattle.std.proofs.Common.{◌≡◌, ◌⊎◌, inl, inr, ℕ, List, Option, Some, None, Result, Ok, Err, MatchResult, sym, subst}
+use Rattle.std.proofs.Common.{◌≡◌, inl, inr, ℕ, List, Option, Some, None, Result, Ok, Err, MatchResult, sym, subst}
 use Rattle.uc_io.specs.declared.sinks.SinkFailed.{SinkFailed}
 use Rattle.uc_topology.specs.Stated.{Machine}
 use Rattle.top_call.specs.declared.status.Status.{Status}
-use Rattle.top_call.specs.declared.status.Status.TheVariants.{Done, Usage, BadInput, Short, ReadFault, WriteFault, Panicked, NoMemory}
+use Rattle.top_call.specs.declared.status.Status.TheVariants.{Done, Usage, BadInput, ReadFault, WriteFault, NoMemory}
 use Rattle.top_call.specs.Written.{Written}
 use Rattle.file_reads.specs.Reads.{Read, Outcome, AllRead, NotRead, Refused}
 use Rattle.tool_text.specs.Words.{Asked, Faulty, ListOf, ShowOf, SelectOf, PlayOf, GenOf}

@@ -1,5 +1,4 @@
 //! Why a command writes nothing but a line that says so.
-ghost use Rattle.std.specs.Prelude.{◌≡◌};
 ghost use Rattle.uc_io.specs.Writing.{Writes};
 ghost use Rattle.top_call.specs.Causes.{WriteCause};
 ghost use Rattle.top_call.specs.Written.{Ends, memory_line};

@@ -1,6 +1,6 @@
 //! The rule of the command line.
-ghost use Rattle.std.specs.Prelude.{◌≡◌, ◌+◌, ◌≤◌, ◌<◌, Ok, Err, length, MatchResult, IfOk};
-ghost use Rattle.tool_text.specs.Words.{Asked, ListOf, asked, is_name, may_name, may_show, may_gen, wrong_word, unless_wrong, show_of, select_of, play_of, gen_of, Faulty};
+ghost use Rattle.std.specs.Prelude.{◌≡◌, ◌+◌, ◌≤◌, ◌<◌, Ok, Err, IfOk};
+ghost use Rattle.tool_text.specs.Words.{ListOf, asked, is_name, may_name, may_show, may_gen, wrong_word, unless_wrong, show_of, select_of, play_of, gen_of};
 ghost use Rattle.uc_cli.specs.Words.{Asks, HasFewNames};
 
 use tool_text::MOST_FILES;

@@ -1,5 +1,5 @@
 //! The AMD file.
-ghost use Rattle.std.specs.Prelude.{◌≡◌, ℕ, ◌+◌, ◌*◌, ◌^◌, ◌<◌, ◌++◌, IfOk, OnOk};
+ghost use Rattle.std.specs.Prelude.{◌≡◌, ℕ, ◌+◌, ◌*◌, ◌<◌, ◌++◌, IfOk, OnOk};
 ghost use Rattle.uc_gen.specs.Bundle.{bytes_of};
 ghost use Rattle.uc_gen.specs.Containers.{equiv_words, section_words, sections, sig_for, container_words, amd_file};
 ghost use Rattle.uc_gen.specs.Draws.{state_after};

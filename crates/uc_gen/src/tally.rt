@@ -1,9 +1,8 @@
 //! A sink that counts lines.
-ghost use Rattle.std.specs.Prelude.{◌≡◌, ◌+◌, ◌≤◌, ◌++◌, [], ◌∷◌, ℕ, List, length, take, drop, IsTrue, false, All, Ok};
+ghost use Rattle.std.specs.Prelude.{◌≡◌, ◌+◌, ◌++◌, [], ◌∷◌, ℕ, List, false, All, Ok};
 ghost use Rattle.std.specs.List.{position};
-ghost use Rattle.uc_io.specs.Writing.{Writes};
 ghost use Rattle.uc_text.specs.Lines.{is_line_feed};
-ghost use Rattle.uc_gen.specs.Tally.{Tallies, lines_of, last_of, rest_of};
+ghost use Rattle.uc_gen.specs.Tally.{Tallies, lines_of, last_of};
 
 use arrayvec::ArrayVec;
 use memchr::memchr;

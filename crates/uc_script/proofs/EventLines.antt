@@ -1,12 +1,10 @@
 -- Lines of one event each.
-use Rattle.std.proofs.Common.{◌≡◌, ℕ, ◌+◌, ◌-◌, ◌<◌, ◌≤◌, ◌^◌, ◌∙◌, true, List, [], ◌∷◌, ◌++◌, length, filter, min, refl, sym, ap, subst, arith}
+use Rattle.std.proofs.Common.{◌≡◌, ℕ, ◌+◌, ◌-◌, ◌<◌, ◌≤◌, ◌∙◌, true, List, [], ◌∷◌, ◌++◌, length, filter, refl, sym, ap, subst, arith}
 use Rattle.std.specs.List.{enumerate_from, position_or_len}
 use Rattle.std.proofs.lemmas.List.{length-drop}
 use Rattle.rendezvous_steps.specs.declared.ends.Beat.{Beat}
-use Rattle.script_text.specs.declared.command.OpenLoad.{OpenLoad}
 use Rattle.script_text.specs.declared.forms.Limits.{Limits}
 use Rattle.script_text.specs.declared.forms.Place.TheVariants.{InLoad}
-use Rattle.script_text.specs.Stands.{Before}
 use Rattle.script_text.specs.Reading.{read_on}
 use Rattle.uc_text.specs.Lines.{counts, is_line_feed, lines_of, words_of}
 use Rattle.uc_script.specs.FirstLine.{first_line}

@@ -16,7 +16,7 @@ use Rattle.script_text.specs.declared.forms.Place.TheVariants.{Front, Top, After
 use Rattle.script_text.specs.Forms.{form_of, has_form, is_beat}
 use Rattle.script_text.specs.Stands.{Before, with_load, with_beats, with_end, beats_of}
 use Rattle.script_text.specs.Reading.{after_form, after_line, unless_found, go_on, read_on}
-use Rattle.script_text.proofs.FormsFound.{form_passes, form_outside, boot_names, load_names, force_names}
+use Rattle.script_text.proofs.FormsFound.{form_outside}
 use Rattle.uc_script.specs.declared.answer.ScriptAnswer.{ScriptAnswer}
 use Rattle.uc_script.specs.declared.answer.ScriptAnswer.TheVariants.{Fault, NoMemory}
 use Rattle.uc_script.specs.declared.answer.LineAnswer.{LineAnswer}

@@ -1,5 +1,5 @@
-ghost use Rattle.std.specs.Prelude.{◌≡◌, ◌<◌, ◌/◌, ◌%◌, ◌^◌, decimal};
-ghost use Rattle.uc_text.specs.Digits.{hex_digit, digit_at, hex8_of};
+ghost use Rattle.std.specs.Prelude.{◌≡◌, ◌<◌, ◌/◌, ◌%◌, decimal};
+ghost use Rattle.uc_text.specs.Digits.{digit_at, hex8_of};
 
 use arrayvec::ArrayVec;
 use itoa::Buffer;

@@ -1,5 +1,4 @@
-ghost use Rattle.std.specs.Prelude.{◌≡◌, ◌<◌, ◌≤◌, ℕ, List, [], length, map, slice_index, All, MatchResult, Ok, Err};
-ghost use Rattle.std.specs.List.{range_with_len};
+ghost use Rattle.std.specs.Prelude.{◌≡◌, ◌<◌, ◌≤◌, [], length, All, MatchResult, Ok, Err};
 ghost use Rattle.uc_topology.specs.Grammar.{same_facts};
 
 use crate::fault::TopoCause;
@@ -42,7 +41,7 @@ impl Model for Tables {
 }
 
 impl Tables {
-    ghost use Rattle.uc_topology.specs.Stated.{Stated, AreGroups, core_at, group_of, group_count, group_facts, thread_groups};
+    ghost use Rattle.uc_topology.specs.Stated.{Stated, AreGroups, group_count, group_facts, thread_groups};
     ghost use Rattle.uc_topology.specs.Grammar.{next_core, next_thread};
 
     pub fn new() -> Self

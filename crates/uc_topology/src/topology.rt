@@ -1,4 +1,4 @@
-ghost use Rattle.std.specs.Prelude.{◌≡◌, ◌<◌, ◌≤◌, ◌==◌, nat_lt, ℕ, List, length, map, slice_index, MatchOption, true, false};
+ghost use Rattle.std.specs.Prelude.{◌≡◌, ◌<◌, ◌≤◌, ◌==◌, nat_lt, length, map, slice_index, MatchOption, true, false};
 ghost use Rattle.std.specs.List.{range_with_len, position_or_len, list_all};
 ghost use Rattle.uc_topology.specs.Stated.{lead};
 ghost use Rattle.uc_topology.specs.Grammar.{is_full};

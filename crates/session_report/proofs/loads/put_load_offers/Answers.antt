@@ -1,10 +1,10 @@
-use Rattle.std.proofs.Common.{◌≡◌, ℕ, ◌+◌, List, None, Ok, Err, get_or, length, sym, ◌∙◌, ap, subst, arith}
+use Rattle.std.proofs.Common.{◌≡◌, ℕ, ◌+◌, List, Ok, Err, length, ◌∙◌, ap, subst, arith}
 use Rattle.std.specs.List.{flat_map, range_with_len}
 use Rattle.uc_io.specs.Writing.{Writes}
 use Rattle.uc_io.specs.declared.sinks.SinkFailed.{SinkFailed}
 use Rattle.uc_report.proofs.Counted.{Writes-number, Writes-number-cut}
 use Rattle.ctl_words.specs.Plans.{plan_of}
-use Rattle.session_report.proofs.LoadTexts.{AreRevisions, are_revisions, offer_at, offer_is, all_offers}
+use Rattle.session_report.proofs.LoadTexts.{are_revisions, offer_at, offer_is, all_offers}
 use Rattle.session_report.proofs.loads.put_load_offers.Goals as goal
 
 pub bounds-offers-group : goal.bounds-offers-group

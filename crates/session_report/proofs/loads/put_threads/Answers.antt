@@ -1,4 +1,4 @@
-use Rattle.std.proofs.Common.{◌+◌, arith, Ok}
+use Rattle.std.proofs.Common.{◌+◌, arith}
 use Rattle.uc_io.specs.declared.sinks.SinkFailed.{SinkFailed}
 use Rattle.uc_report.proofs.Counted.{Writes-number, Writes-number-cut}
 use Rattle.ctl_words.specs.Plans.{plan_of}

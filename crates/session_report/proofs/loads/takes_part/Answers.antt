@@ -1,4 +1,4 @@
-use Rattle.std.proofs.Common.{◌≡◌, ◌<◌, false, length, sym, ◌∙◌, arith}
+use Rattle.std.proofs.Common.{◌≡◌, ◌<◌, false, length, sym, arith}
 use Rattle.std.specs.Prelude.{slice_index}
 use Rattle.rendezvous_steps.specs.Plan.{is_absent}
 use Rattle.ctl_words.specs.Plans.{plan_of}

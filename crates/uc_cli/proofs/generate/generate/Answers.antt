@@ -1,4 +1,4 @@
-use Rattle.std.proofs.Common.{◌≡◌, ℕ, List, [], Option, None, refl, sym, ap, ◌∙◌, subst}
+use Rattle.std.proofs.Common.{ℕ, List, [], None, refl, sym, subst}
 use Rattle.uc_io.specs.Writing.{Writes}
 use Rattle.top_call.proofs.Endings.{Ends-written, ended_cause, Written-ends}
 use Rattle.top_call.specs.Status.{RanToItsEnd}

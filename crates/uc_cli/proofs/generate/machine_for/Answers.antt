@@ -1,4 +1,4 @@
-use Rattle.std.proofs.Common.{◌≡◌, ◌≤◌, ℕ, List, length, sym, ◌∙◌, subst}
+use Rattle.std.proofs.Common.{◌≤◌, ℕ, List, length, sym, ◌∙◌, subst}
 use Rattle.uc_topology.specs.Texts.{States, FirstFault}
 use Rattle.uc_topology.proofs.Laws.{one_machine, never_both}
 use Rattle.uc_gen.specs.Texts.{topology_text}

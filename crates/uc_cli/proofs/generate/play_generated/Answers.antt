@@ -1,6 +1,4 @@
-use Rattle.std.proofs.Common.{◌≡◌, ℕ, List, Option, None, refl, sym, ◌∙◌, ap, subst}
-use Rattle.std.specs.Prelude.{codes}
-use Rattle.uc_io.specs.Putting.{Puts}
+use Rattle.std.proofs.Common.{ℕ, List, Option, ap}
 use Rattle.uc_io.specs.Sure.{put_under}
 use Rattle.uc_cli.proofs.Generated.{is_within, holds_bundle, was_played}
 use Rattle.uc_cli.proofs.generate.play_generated.Goals as goal

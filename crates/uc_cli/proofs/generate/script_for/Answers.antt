@@ -1,4 +1,4 @@
-use Rattle.std.proofs.Common.{◌≡◌, ◌≤◌, ℕ, List, length, sym, ◌∙◌, subst}
+use Rattle.std.proofs.Common.{◌≤◌, ℕ, List, length, sym, ◌∙◌, subst}
 use Rattle.script_text.specs.Texts.{States, FirstFault}
 use Rattle.script_text.proofs.OneReading.{one_script, never_both}
 use Rattle.uc_gen.specs.Texts.{script_text}

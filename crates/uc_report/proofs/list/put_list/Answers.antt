@@ -1,4 +1,4 @@
-use Rattle.std.proofs.Common.{◌≡◌, ℕ, ◌+◌, ◌-◌, ◌<◌, ◌≤◌, List, [], ◌∷◌, Ok, Err, length, get_or, map, take, drop, refl, sym, ap, ◌∙◌, subst, arith, length-append}
+use Rattle.std.proofs.Common.{◌≡◌, ℕ, ◌+◌, ◌-◌, ◌<◌, List, [], ◌∷◌, Ok, Err, length, get_or, map, take, drop, refl, sym, ap, ◌∙◌, subst, arith}
 use Rattle.std.specs.Prelude.{sum_by}
 use Rattle.std.specs.List.{flat_map, range_with_len}
 use Rattle.std.proofs.lemmas.List.{get_or_default, get_or-map, length-map, take_more}
@@ -7,11 +7,11 @@ use Rattle.uc_bytes.specs.declared.causes.Vendor.TheVariants.{Intel}
 use Rattle.uc_io.specs.Writing.{Writes}
 use Rattle.uc_io.specs.declared.sinks.SinkFailed.{SinkFailed}
 use Rattle.file_entries.specs.Reading.{Reading}
-use Rattle.file_entries.specs.Entry.{Entry, entries_of, entries_from}
+use Rattle.file_entries.specs.Entry.{entries_of}
 use Rattle.report_text.specs.Listing.{file_text}
 use Rattle.uc_catalog.specs.Contents.{FileSum, Contents, sum_of, kept, file_at, IsOfReadings}
 use Rattle.uc_report.proofs.Counted.{Writes-number, Writes-number-cut}
-use Rattle.uc_report.proofs.Files.{no_reading, start_of, text_at, many_of, start_next, stand_there, starts_at, files_by_number}
+use Rattle.uc_report.proofs.Files.{no_reading, start_of, text_at, many_of, stand_there, starts_at, files_by_number}
 use Rattle.uc_report.proofs.list.put_list.Goals as goal
 
 abbrev count_of : FileSum → ℕ

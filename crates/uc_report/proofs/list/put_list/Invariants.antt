@@ -1,4 +1,4 @@
-use Rattle.std.proofs.Common.{◌≡◌, ℕ, List, Ok, length, take}
+use Rattle.std.proofs.Common.{◌≡◌, ℕ, List, Ok, take}
 use Rattle.std.specs.Prelude.{sum_by}
 use Rattle.std.specs.List.{flat_map, range_with_len}
 use Rattle.uc_io.specs.Writing.{Writes}

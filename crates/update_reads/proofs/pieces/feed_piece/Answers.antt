@@ -1,4 +1,4 @@
-use Rattle.std.proofs.Common.{Option, Err, ◌++◌, subst}
+use Rattle.std.proofs.Common.{Option, Err, subst}
 use Rattle.uc_bytes.specs.declared.causes.FileFault.{FileFault}
 use Rattle.uc_bytes.specs.declared.causes.FileAnswer.{FileAnswer}
 use Rattle.file_rows.proofs.FileReads.{settled_stays}

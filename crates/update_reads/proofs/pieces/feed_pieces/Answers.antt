@@ -1,4 +1,4 @@
-use Rattle.std.proofs.Common.{List, [], ◌++◌, Option, take, refl, sym, subst, length-take-le}
+use Rattle.std.proofs.Common.{[], ◌++◌, Option, take, refl, sym, subst, length-take-le}
 use Rattle.uc_catalog.specs.declared.coming.Coming.{Coming}
 use Rattle.uc_catalog.specs.Coming.{ComesBy}
 use Rattle.update_reads.proofs.Taken.{fed_behind}

@@ -1,4 +1,4 @@
-use Rattle.std.proofs.Common.{◌≡◌, inl, inr, ℕ, ◌+◌, ◌<◌, ◌≤◌, List, ◌++◌, Option, subst, length, take, refl, sym, ◌∙◌, ap, arith, append_assoc, length-append, length-take-le}
+use Rattle.std.proofs.Common.{◌≡◌, inl, inr, ℕ, ◌+◌, ◌<◌, List, ◌++◌, Option, subst, length, take, refl, sym, ◌∙◌, ap, arith, append_assoc, length-append, length-take-le}
 use Rattle.uc_bytes.specs.declared.causes.FileFault.{FileFault}
 use Rattle.uc_bytes.specs.declared.TheConstants.{FILE_LIMIT}
 use Rattle.file_reads.proofs.Accepted.{past_limit}

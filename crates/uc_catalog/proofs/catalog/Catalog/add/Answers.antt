@@ -1,11 +1,10 @@
-use Rattle.std.proofs.Common.{◌≡◌, ℕ, ◌<◌, Bool, true, false, Option, None, List, [], ◌∷◌, ◌++◌, length, sym, ◌∙◌, ap, subst, arith}
+use Rattle.std.proofs.Common.{◌≡◌, ℕ, ◌<◌, Bool, true, false, None, List, [], ◌∷◌, ◌++◌, length, sym, ◌∙◌, ap, subst, arith}
 use Rattle.std.specs.Prelude.{Vec}
 use Rattle.std.specs.declared.alloc.Global.{Global}
 use Rattle.std.proofs.lemmas.List.{length-map}
-use Rattle.uc_catalog.specs.declared.coming.Coming.{Coming}
 use Rattle.uc_catalog.specs.declared.file.KeptFile.{KeptFile}
-use Rattle.uc_catalog.specs.Contents.{Contents, IsCounted, Adds, kept_bytes}
-use Rattle.uc_catalog.specs.Files.{sum_of_rows, contents_of, AreKept}
+use Rattle.uc_catalog.specs.Contents.{Contents, Adds, kept_bytes}
+use Rattle.uc_catalog.specs.Files.{sum_of_rows, contents_of}
 use Rattle.uc_catalog.proofs.Located.{counted_is, counted_same}
 use Rattle.uc_catalog.proofs.Added.{adds, are_kept}
 use Rattle.uc_catalog.proofs.catalog.Catalog.add.Goals as goal
