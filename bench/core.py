@@ -95,22 +95,27 @@ fn play<S: Sink>(alloc: Global, is_storm: bool, number: u64, out: &mut S) -> Opt
     if !plan.sound() || !are_in_range(beats.as_slice(), plan.threads) {
         return None;
     }
-    let mut last = None;
+    let mut outcome = Outcome::new();
+    let mut ended = false;
     for _ in 0..if is_storm { 1 } else { number } {
-        last = load(alloc, &plan, beats.as_slice(), out);
+        ended = load(alloc, &plan, beats.as_slice(), out, &mut outcome);
     }
-    last
+    if ended { Some(outcome) } else { None }
 }
 
-fn load<S: Sink>(alloc: Global, plan: &Plan, beats: &[Beat], out: &mut S) -> Option<Outcome>
+/// Whether a load came to an outcome.
+fn load<S: Sink>(
+    alloc: Global,
+    plan: &Plan,
+    beats: &[Beat],
+    out: &mut S,
+    outcome: &mut Outcome,
+) -> bool
     requires sound { IsSound plan.now }
     requires in_range { All (BeatInRange plan.now.threads) beats.now }
 {
     let mut scheduled = Scheduled::new();
-    if plan.threads > scheduled.most() {
-        return None;
-    }
-    scheduled.run(alloc, plan, beats, out).ok()
+    plan.threads <= scheduled.most() && scheduled.run(alloc, plan, beats, out, outcome).is_ok()
 }
 
 fn revisions(outcome: &Outcome) -> u64 {

@@ -239,7 +239,9 @@ fn run_one<R: Threads + Wait>(
     requires few { plan.now.threads ≤ 32 }
 {
     let mut live = LiveRun::new(rt, alloc, gate);
-    live.hold(alloc, plan)
+    let mut outcome = Outcome::new();
+    live.hold(alloc, plan, &mut outcome)?;
+    Ok(outcome)
 }
 
 /// Makes the runs of so many threads, and counts what they came to. None where memory ran out, or an outcome does not

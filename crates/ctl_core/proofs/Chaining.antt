@@ -1,10 +1,10 @@
 -- The tables of the threads that come next, made from the last thread down.
-use Rattle.std.proofs.Common.{◌≡◌, ◌≢◌, ℕ, suc, ◌+◌, ◌-◌, ◌<◌, ◌≤◌, ◌==◌, ◌&&◌, Bool, true, false, not, List, length, slice_set, get_or, replicate, Option, Some, None, inl, inr, refl, sym, ap, ◌∙◌, arith, length-set}
-use Rattle.std.proofs.lemmas.Bool.Decides.{nat_tests, eqb_tells}
+use Rattle.std.proofs.Common.{◌≡◌, ◌≢◌, ℕ, suc, ◌+◌, ◌-◌, ◌<◌, ◌≤◌, ◌==◌, ◌&&◌, Bool, true, false, List, length, slice_set, get_or, replicate, Option, Some, None, inl, inr, refl, sym, ap, ◌∙◌, arith, length-set}
+use Rattle.std.proofs.lemmas.Bool.Decides.{eqb_tells}
 use Rattle.std.proofs.lemmas.Grind.{get_or-set_at}
 use Rattle.std.proofs.lemmas.List.{get_or-set_other, get_or-replicate, length-replicate}
 use Rattle.std.proofs.lemmas.Option.{get_or_from_slice_get, slice_get_read, slice_get_within}
-use Rattle.std.specs.List.{find, range_with_len, slice_get}
+use Rattle.std.specs.List.{find, range_with_len}
 use Rattle.rendezvous_steps.specs.Plan.{Plan, Sound, is_absent, is_offline, offline_from}
 use Rattle.ctl_thread.specs.Links.{is_member, member_from, LinksMembers, LinksOffline}
 use Rattle.ctl_core.specs.Chains.{Linking}

@@ -13,7 +13,7 @@ use Rattle.item_text.specs.Items.{item_line}
 use Rattle.ctl_core.specs.declared.outcomes.Outcome.{Outcome as Tables}
 use Rattle.ctl_core.specs.declared.runs.RunAnswer.{RunAnswer}
 use Rattle.ctl_core.specs.declared.runs.RunAnswer.TheVariants.{WriteFault, NoMemory}
-use Rattle.ctl_core.specs.Outcomes.{outcome_of}
+use Rattle.ctl_core.specs.Outcomes.{outcome_of, came_to}
 use Rattle.ctl_core.specs.Runs.{IsRun}
 use Rattle.ctl_core.specs.Playing.{schedule_lines, schedule_end, PlayedTo}
 
@@ -33,6 +33,10 @@ schedule_run plan beats sound padded = record {
   late = false;
   ran = plays_are_listed item_line plan beats (schedule_lines plan beats) (outcome_at plan (shown_by plan (schedule_end plan beats))) sound padded refl (record { decide = refl; ends = refl; revs = refl });
 }
+
+pub on_came : {E : Type 0} (P : Type 0) (outcome : Tables) (result : Result (Unit {0}) E) → OnOk result P → OnOk (came_to outcome result) P
+on_came P outcome (Ok _) holds = holds
+on_came P outcome (Err _) _ = tt
 
 pub schedule_is_run : {D : Type 0} (stands : D → List ℕ → Type 0) (faults : D → ℕ) (plan : Plan) (beats : List Beat) (before after : List RunOf) (old new : D) (result : Result Tables RunAnswer) → Sound plan → Padded plan → faults old ≤ faults new → OnOk result (faults new ≡ faults old) → PlayedTo stands faults plan beats old new result → IsRun (record { stands = stands; faults = faults; lists = true }) plan beats (record { runs = before; sink = old }) (record { runs = after; sink = new }) result
 schedule_is_run stands faults plan beats before after old new (Ok outcome) sound padded later still played = record {

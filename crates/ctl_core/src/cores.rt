@@ -7,7 +7,6 @@ ghost use Rattle.ctl_core.specs.Moments.{running_of, Fits};
 
 use crate::moments::Moment;
 use crate::outcomes::Outcome;
-use arrayvec::ArrayVec;
 use ctl_words::Plan;
 use rendezvous_steps::{Event, Item, What};
 use std::alloc::Global;
@@ -108,14 +107,18 @@ impl<'a> Core<'a> {
     pub fn outcome(&self) -> Outcome
         ensures { OutcomeShows (plan_in self.now) (outcome_of result) (state_in self.now) }
     {
-        let mut outcome = Outcome {
-            decide: self.moment.decision(),
-            ends: ArrayVec::new(),
-            revs: ArrayVec::new(),
-        };
+        let mut outcome = Outcome::new();
+        self.fill_outcome(&mut outcome);
+        outcome
+    }
+
+    /// Makes an outcome that of the rendezvous if it ended here. It takes no memory.
+    pub fn fill_outcome(&self, outcome: &mut Outcome)
+        ensures { OutcomeShows (plan_in self.now) (outcome_of outcome.new) (state_in self.now) }
+    {
+        outcome.decide = self.moment.decision();
         self.moment.fill_ends(self.plan, &mut outcome.ends);
         self.moment.fill_revisions(self.plan, &mut outcome.revs);
-        outcome
     }
 
     /// How many items so far were none of Poll, Idle, Latched and Ordinary: at most 20 for each thread and 8 more.

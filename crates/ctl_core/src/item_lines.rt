@@ -1,6 +1,6 @@
 //! The line of an item, composed in a fixed buffer.
 
-ghost use Rattle.std.specs.Prelude.{◌≡◌, ◌+◌, ◌<◌, ◌≤◌, ◌++◌, ℕ, length, codes, decimal};
+ghost use Rattle.std.specs.Prelude.{◌≡◌, ◌+◌, ◌<◌, ◌≤◌, ◌++◌, length, codes, decimal};
 ghost use Rattle.arrayvec.specs.ArrayVec.{array_vec_len};
 ghost use Rattle.rendezvous_steps.specs.declared.items.What.TheVariants.{Wrote, Report, Leave};
 ghost use Rattle.item_text.specs.Items.{result_text, item_line};

@@ -1,9 +1,8 @@
 //! What the control words show of a thread.
 
-ghost use Rattle.std.specs.Prelude.{◌≡◌, ◌||◌, ◌<◌, ◌≤◌, ◌+◌, ◌^◌, ℕ, cond, count_by, not};
+ghost use Rattle.std.specs.Prelude.{◌≡◌, ◌||◌, ◌<◌, ◌≤◌, ◌+◌, ◌^◌, ℕ, cond, not};
 ghost use Rattle.rendezvous_steps.specs.declared.operations.Word.TheVariants.{Mode, Nmi};
 ghost use Rattle.rendezvous_steps.specs.Events.{is_inside, shows_left, shows_halted, shows_withdrawn, shows_held, shows_finished};
-ghost use Rattle.rendezvous_steps.specs.Plan.{threads_from};
 ghost use Rattle.rendezvous_steps.specs.StepTable.{write_of};
 ghost use Rattle.ctl_words.specs.Lists.{word_of};
 ghost use Rattle.ctl_words.specs.Plans.{plan_of, IsSound};

@@ -5,6 +5,7 @@ ghost use Rattle.rendezvous_rule.specs.Runs.{RunOf, BeatInRange, AlwaysRuns, Ran
 ghost use Rattle.ctl_words.specs.Plans.{plan_of, IsSound};
 ghost use Rattle.item_text.specs.Items.{item_line};
 ghost use Rattle.ctl_core.specs.declared.runs.RunAnswer.TheVariants.{WriteFault as WriteFaultAnswer, NoMemory as NoMemoryAnswer};
+ghost use Rattle.ctl_core.specs.Outcomes.{came_to};
 ghost use Rattle.ctl_core.specs.Runs.{IsRun};
 
 use crate::outcomes::Outcome;
@@ -54,7 +55,8 @@ pub trait Rendezvous {
     fn most(&self) -> u16
         ensures { result ≡ limit self.now };
 
-    /// Runs the rendezvous of a plan. Where it prints its items, they are those of the beats' events, up to the first
+    /// Runs the rendezvous of a plan, and makes the outcome that is lent the one that it came to. Where it came to none, what
+    /// the outcome holds means nothing. Where it prints its items, they are those of the beats' events, up to the first
     /// moment in which no thread is unfinished. It answers a write fault only where the sink's count of faults rose; a
     /// front of the text of a run was then written.
     fn run<S: Sink>(
@@ -63,7 +65,8 @@ pub trait Rendezvous {
         plan: &Plan,
         beats: &[Beat],
         out: &mut S,
-    ) -> Result<Outcome, RunAnswer>
+        outcome: &mut Outcome,
+    ) -> Result<(), RunAnswer>
         requires sound { IsSound plan.now }
         requires few { plan.now.threads ≤ limit self.old }
         requires in_range { All (BeatInRange plan.now.threads) beats.now }
@@ -72,7 +75,7 @@ pub trait Rendezvous {
             (plan_of plan.now) beats.now
             (record { runs = runs self.old; sink = out.old })
             (record { runs = runs self.new; sink = out.new })
-            result }
+            (came_to outcome.new result) }
         ensures most_stays { limit self.new ≡ limit self.old };
 
     /// Every sound plan has a run, whatever the beats.

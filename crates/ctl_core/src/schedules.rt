@@ -1,7 +1,6 @@
 //! A rendezvous over a schedule, with a line for each item.
 
 ghost use Rattle.std.specs.Prelude.{◌≡◌, true, ◌<◌, ◌≤◌, ◌-◌, All, [], ◌∷◌, map, OnOk};
-ghost use Rattle.std.specs.List.{range_with_len};
 ghost use Rattle.rendezvous_steps.specs.Plan.{threads_from};
 ghost use Rattle.rendezvous_steps.specs.declared.items.Event.TheVariants.{Step as StepOf};
 ghost use Rattle.rendezvous_model.specs.RoundStep.{thread_of};
@@ -9,6 +8,7 @@ ghost use Rattle.rendezvous_rule.specs.Ran.{events_of, repeated};
 ghost use Rattle.rendezvous_rule.specs.Runs.{BeatInRange};
 ghost use Rattle.ctl_words.specs.Plans.{plan_of, IsSound};
 ghost use Rattle.ctl_core.specs.Cores.{plan_in, moment_in};
+ghost use Rattle.ctl_core.specs.Outcomes.{came_to};
 ghost use Rattle.ctl_core.specs.Playing.{Plays, PlayedTo};
 ghost use Rattle.item_text.specs.Items.{item_line as line_of};
 ghost use Rattle.play_laws.proofs.Exist.{always_runs as runs_always, ran_grows};
@@ -40,16 +40,18 @@ impl Scheduled {
         plan: &Plan,
         beats: &[Beat],
         out: &mut S,
-    ) -> Result<Outcome, RunAnswer>
+        outcome: &mut Outcome,
+    ) -> Result<(), RunAnswer>
         requires sound { IsSound plan.now }
         requires in_range { All (BeatInRange plan.now.threads) beats.now }
-        ensures played { PlayedTo S.stands S.faults (plan_of plan.now) beats.now out.old out.new result }
+        ensures played { PlayedTo S.stands S.faults (plan_of plan.now) beats.now out.old out.new (came_to outcome.new result) }
         ensures later { S.faults out.old ≤ S.faults out.new }
         ensures still { OnOk result (S.faults out.new ≡ S.faults out.old) }
     {
         let mut core = Core::new(alloc, plan)?;
         play_beats(&mut core, beats, out)?;
-        Ok(core.outcome())
+        core.fill_outcome(outcome);
+        Ok(())
     }
 }
 
@@ -70,8 +72,9 @@ impl Rendezvous for Scheduled {
         plan: &Plan,
         beats: &[Beat],
         out: &mut S,
-    ) -> Result<Outcome, RunAnswer> {
-        self.play(alloc, plan, beats, out)
+        outcome: &mut Outcome,
+    ) -> Result<(), RunAnswer> {
+        self.play(alloc, plan, beats, out, outcome)
     }
 
     ghost always_runs = { runs_always line_of true };

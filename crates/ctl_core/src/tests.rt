@@ -304,7 +304,13 @@ fn play(
     assert!(rt; are_in_range(schedule, plan.threads));
     let mut scheduled = Scheduled::new();
     assert!(rt; plan.threads <= scheduled.most());
-    Ok(scheduled.run(alloc, plan, schedule, out))
+    let mut outcome = Outcome::new();
+    Ok(
+        match scheduled.run(alloc, plan, schedule, out, &mut outcome) {
+            Ok(()) => Ok(outcome),
+            Err(answer) => Err(answer),
+        },
+    )
 }
 
 #[test]

@@ -29,7 +29,7 @@ pub struct Bay {
 }
 
 impl Bay {
-    ghost use Rattle.std.specs.Prelude.{ℕ, ◌+◌, ◌<◌, ◌≤◌, ◌||◌, IfOk, IsTrue};
+    ghost use Rattle.std.specs.Prelude.{◌+◌, ◌<◌, ◌≤◌, ◌||◌, IfOk, IsTrue};
     ghost use Rattle.rendezvous_steps.specs.StepTable.{opening, is_last};
     ghost use Rattle.ctl_table.specs.Posts.{plan_in, thread_of, phase_of, given_by, joined_by, is_late};
     ghost use Rattle.ctl_table.specs.Posts.{IsOf, Opens, HasGiven, HasJoined};

@@ -1,10 +1,8 @@
 //! The words of a bay that is closed, read into an outcome.
 
-ghost use Rattle.std.specs.Prelude.{◌≡◌, ◌==◌, ◌||◌, ℕ, IsTrue, map};
-ghost use Rattle.std.specs.List.{range_with_len};
+ghost use Rattle.std.specs.Prelude.{◌≡◌, ◌==◌, IsTrue};
 ghost use Rattle.std.specs.Mem.Slots.{IsFull, slots_items, slots_len};
 ghost use Rattle.rendezvous_steps.specs.declared.operations.Word.TheVariants.{Mode, Rev};
-ghost use Rattle.rendezvous_steps.specs.Plan.{threads_from};
 ghost use Rattle.ctl_words.specs.Plans.{plan_of, IsSound};
 ghost use Rattle.ctl_words.specs.Places.{word_count, is_word};
 ghost use Rattle.ctl_core.specs.Moments.{end_in};
@@ -35,11 +33,8 @@ impl Last<'_> {
     pub fn outcome(&self) -> Outcome
         ensures { OutcomeReads (plan_at self.now) (words_at self.now) result }
     {
-        let mut outcome = Outcome {
-            decide: self.word(Word::Decide),
-            ends: ArrayVec::new(),
-            revs: ArrayVec::new(),
-        };
+        let mut outcome = Outcome::new();
+        outcome.decide = self.word(Word::Decide);
         self.fill_ends(&mut outcome.ends);
         self.fill_revisions(&mut outcome.revs);
         outcome

@@ -10,7 +10,6 @@
 #![tactic(auto)]
 
 mod chains;
-mod copies;
 mod gates;
 mod runs;
 mod workers;

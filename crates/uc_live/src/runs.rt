@@ -4,10 +4,10 @@ ghost use Rattle.std.specs.Prelude.{◌≡◌, ◌≤◌, false, []};
 ghost use Rattle.ctl_words.specs.Plans.{plan_of, IsSound};
 ghost use Rattle.item_text.specs.Items.{item_line as line_of};
 ghost use Rattle.play_laws.proofs.Exist.{always_runs as runs_always, ran_grows};
+ghost use Rattle.ctl_core.specs.Outcomes.{came_to};
 ghost use Rattle.uc_live.specs.Runs.{runs_of, HeldTo};
 
 use crate::chains::work_all;
-use crate::copies::copied;
 use crate::gates::{Gate, OpenGate};
 use ctl_core::{Rendezvous, RunAnswer};
 use ctl_table::{Bay, Closed, Outcome, Plan};
@@ -38,12 +38,17 @@ impl<'g, G, R> LiveRun<'g, G, R> {
 }
 
 impl<G: Gate + Sync, R: Threads + Wait> LiveRun<'_, G, R> {
-    /// Runs the rendezvous of a plan. All memory is taken before the first step. It answers the outcome of a closed bay
-    /// of this plan, which it keeps, or want of memory, and never a write fault.
-    pub fn hold(&mut self, alloc: Global, plan: &Plan) -> Result<Outcome, RunAnswer>
+    /// Runs the rendezvous of a plan, and makes the outcome that is lent that of a closed bay of this plan, which it keeps. All
+    /// memory is taken before the first step. It answers want of memory, and never a write fault.
+    pub fn hold(
+        &mut self,
+        alloc: Global,
+        plan: &Plan,
+        outcome: &mut Outcome,
+    ) -> Result<(), RunAnswer>
         requires sound { IsSound plan.now }
         requires few { plan.now.threads ≤ 32 }
-        ensures { HeldTo (plan_of plan.now) (runs_of self.old) (runs_of self.new) result }
+        ensures { HeldTo (plan_of plan.now) (runs_of self.old) (runs_of self.new) (came_to outcome.new result) }
     {
         let Ok(()) = self.kept.reserve(1) else {
             return Err(RunAnswer::NoMemory);
@@ -51,11 +56,11 @@ impl<G: Gate + Sync, R: Threads + Wait> LiveRun<'_, G, R> {
         let (bay, zero) = Bay::new(alloc, plan)?;
         let zero = work_all(&self.rt, &bay, plan, self.gate, zero);
         let closed = bay.close(zero);
-        let outcome = copied(closed.outcome());
+        outcome.copy_from(closed.outcome());
         let Ok(()) = self.kept.push(closed) else {
             unreachable!()
         };
-        Ok(outcome)
+        Ok(())
     }
 }
 
@@ -76,8 +81,9 @@ impl<R: Threads + Wait> Rendezvous for LiveRun<'_, OpenGate, R> {
         plan: &Plan,
         _beats: &[Beat],
         _out: &mut S,
-    ) -> Result<Outcome, RunAnswer> {
-        self.hold(alloc, plan)
+        outcome: &mut Outcome,
+    ) -> Result<(), RunAnswer> {
+        self.hold(alloc, plan, outcome)
     }
 
     ghost always_runs = { runs_always line_of false };

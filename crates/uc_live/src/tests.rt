@@ -72,7 +72,8 @@ fn patient_workers_load_every_core(rt: HostRuntime) -> Result<(), Fail> {
             let plan = pairs(cores, *second, u32::MAX);
             assert!(rt; plan.sound() && plan.threads <= 32);
             let mut live = LiveRun::new(&rt, rt.alloc(), &OpenGate);
-            let outcome = live.hold(rt.alloc(), &plan)?;
+            let mut outcome = Outcome::new();
+            live.hold(rt.alloc(), &plan, &mut outcome)?;
             assert!(rt; all_wrote(&outcome, *end));
         }
     }

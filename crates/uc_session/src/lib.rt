@@ -8,6 +8,7 @@ mod boots;
 mod loads;
 mod plain;
 mod playing;
+mod rooms;
 mod running;
 mod sessions;
 mod setting_out;

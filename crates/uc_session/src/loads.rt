@@ -13,13 +13,14 @@ ghost use Rattle.session_steps.specs.Did.{results_text};
 ghost use Rattle.session_steps.specs.Calls.{HeldWhere};
 ghost use Rattle.machine_steps.specs.Puts.{Puts};
 ghost use Rattle.ctl_words.specs.Plans.{plan_of, IsSound};
-ghost use Rattle.ctl_core.specs.Outcomes.{outcome_of};
+ghost use Rattle.ctl_core.specs.Outcomes.{outcome_of, came_to};
 ghost use Rattle.session_parts.specs.Parts.{setting_of, state_of};
 ghost use Rattle.uc_session.specs.Meeting.{Meets, cut_short};
 ghost use Rattle.uc_session.specs.Playing.{Does};
 ghost use Rattle.uc_session.specs.Verdicts.{answered};
 
 use crate::playing::tell_load;
+use crate::rooms::LoadRoom;
 use crate::setting_out::{Stop, set_out};
 use crate::verdicts::verdict;
 use command_laws::each_command_does_something;
@@ -37,7 +38,7 @@ use uc_catalog::Catalog;
 use uc_io::{Files, Sink, SinkFailed};
 use uc_topology::Topology;
 
-/// Writes what a load offers, and lets the threads of its plan meet.
+/// Writes what a load offers, lets the threads of its plan meet, and makes the outcome the one that they come to.
 fn offer_and_run<R: Rendezvous, S: Sink>(
     alloc: Global,
     topology: &Topology,
@@ -46,7 +47,8 @@ fn offer_and_run<R: Rendezvous, S: Sink>(
     beats: &[Beat],
     how: &mut R,
     out: &mut S,
-) -> Result<Outcome, RunAnswer>
+    outcome: &mut Outcome,
+) -> Result<(), RunAnswer>
     requires count { length tables.now.offers.items ≡ group_count topology.now.stated.cores }
     requires within { All (λ offer. IfSome offer (λ number. number < length catalog.now.entries)) tables.now.offers.items }
     requires sound { IsSound tables.now.plan }
@@ -54,13 +56,13 @@ fn offer_and_run<R: Rendezvous, S: Sink>(
     requires in_range { All (BeatInRange tables.now.plan.threads) beats.now }
     ensures meets { (setting : Setting) (state : State) (puts : Puts) → setting.machine ≡ topology.now → plan_of tables.now.plan ≡ load_plan setting state puts tables.now.offers.items → Meets
         (record { stands = S.stands; faults = S.faults; lists = R.lists }) (plan_of tables.now.plan) beats.now (load_offers_text setting state catalog.now.entries tables.now.offers.items)
-        (record { runs = R.runs how.old; sink = out.old }) (record { runs = R.runs how.new; sink = out.new }) result }
+        (record { runs = R.runs how.old; sink = out.old }) (record { runs = R.runs how.new; sink = out.new }) (came_to outcome.new result) }
     ensures most_stays { R.limit how.new ≡ R.limit how.old }
 {
     tables_end();
     let plan = &tables.plan;
     put_load_offers(out, topology, plan, catalog, tables.offers.as_slice())?;
-    how.run(alloc, plan, beats, out)
+    how.run(alloc, plan, beats, out, outcome)
 }
 
 /// What a command answers whose load came to this.
@@ -105,12 +107,12 @@ fn put_end<S: Sink>(
     put_answer(out, names, answer)
 }
 
-/// Loads from the files of these names, 1 to 16, over the schedule of these beats. The heading was written. The tables are
-/// lent: nothing is taken from what an earlier load left in them.
+/// Loads from the files of these names, 1 to 16, over the schedule of these beats. The heading was written. The room is
+/// lent: nothing is taken from what an earlier load left in it.
 pub fn play_load<R: Rendezvous, F: Files, S: Sink>(
     alloc: Global,
     parts: &mut Parts,
-    tables: &mut LoadTables,
+    room: &mut LoadRoom,
     force: bool,
     names: &[Text],
     beats: &[Beat],
@@ -139,20 +141,29 @@ pub fn play_load<R: Rendezvous, F: Files, S: Sink>(
     the_verdict_is_the_first_that_holds();
     tables_end();
     let _topology = parts.topology();
-    let catalog = match set_out(alloc, parts, force, names, files, tables) {
+    let catalog = match set_out(alloc, parts, force, names, files, &mut room.tables) {
         Ok(catalog) => catalog,
         Err(Stop::Answer(answer)) => return tell_load(out, names, answer),
         Err(Stop::NoMemory) => return Played::NoMemory,
     };
-    parts.plan(tables.places.as_slice(), &mut tables.plan);
-    let met = offer_and_run(alloc, parts.topology(), &catalog, tables, beats, how, out);
-    let outcome = match &met {
-        Ok(outcome) => outcome,
+    parts.plan(room.tables.places.as_slice(), &mut room.tables.plan);
+    let LoadRoom { tables, outcome } = room;
+    match offer_and_run(
+        alloc,
+        parts.topology(),
+        &catalog,
+        tables,
+        beats,
+        how,
+        out,
+        outcome,
+    ) {
+        Ok(()) => {}
         Err(answer) => {
             parts.take_back(tables.places.as_slice());
-            return cut_short(*answer);
+            return cut_short(answer);
         }
-    };
+    }
     let plan = &tables.plan;
     parts.finish_load(tables.places.as_slice(), plan, outcome.revs.as_slice());
     let answer = command_answer(verdict(plan, outcome));

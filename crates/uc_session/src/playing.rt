@@ -20,10 +20,11 @@ use crate::acted::Acted;
 use crate::boots::boot;
 use crate::loads::play_load;
 use crate::plain::act;
+use crate::rooms::LoadRoom;
 use command_laws::each_command_does_something;
 use ctl_core::Rendezvous;
 use script_text::Command;
-use session_parts::{LoadTables, Parts};
+use session_parts::Parts;
 use session_report::put_heading;
 use session_text::{LoadAnswer, Played};
 use std::alloc::Global;
@@ -107,12 +108,12 @@ fn play_plain<S: Sink>(parts: &mut Parts, command: &Command, out: &mut S) -> Pla
 }
 
 /// Does a command, number `number` of its script, and writes its text. After a write fault in what a load shows, or for want
-/// of memory, the parts are as before; after a later write fault they are in the state after the command. The tables are
+/// of memory, the parts are as before; after a later write fault they are in the state after the command. The room is
 /// lent to a load.
 pub fn play<R: Rendezvous, F: Files, S: Sink>(
     alloc: Global,
     parts: &mut Parts,
-    tables: &mut LoadTables,
+    room: &mut LoadRoom,
     command: &Command,
     number: u32,
     how: &mut R,
@@ -152,7 +153,7 @@ pub fn play<R: Rendezvous, F: Files, S: Sink>(
         } => play_load(
             alloc,
             parts,
-            tables,
+            room,
             *force,
             names.as_slice(),
             beats.as_slice(),

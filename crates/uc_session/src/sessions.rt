@@ -12,12 +12,13 @@ ghost use Rattle.session_laws.specs.Standing.{Standing, InRange};
 ghost use Rattle.session_parts.specs.Parts.{setting_of as parts_setting, state_of as parts_state};
 
 use crate::playing::play;
+use crate::rooms::LoadRoom;
 use ctl_core::Rendezvous;
 use hw_machine::{Power, ThreadState};
 use patch_pool::{PatchId, PatchPool};
 use script_text::Command;
 use session_laws::each_state_stands;
-use session_parts::{LoadTables, Parts};
+use session_parts::Parts;
 use session_text::Played;
 use std::alloc::Global;
 use uc_bytes::NoMemory;
@@ -30,8 +31,7 @@ use uc_topology::Topology;
 #[derive(Drop)]
 pub struct Session {
     pub(crate) parts: Parts,
-    /// Lent to each load, so that none has to make them. What they hold between two commands means nothing.
-    tables: LoadTables,
+    room: LoadRoom,
     ghost standing: { Standing (parts_setting parts) (parts_state parts) },
 }
 
@@ -55,7 +55,7 @@ impl Session {
         let parts = Parts::new(alloc, topology, pool, patience)?;
         Ok(Session {
             parts,
-            tables: LoadTables::new(),
+            room: LoadRoom::new(),
         })
     }
 
@@ -133,7 +133,7 @@ impl Session {
         play(
             alloc,
             &mut self.parts,
-            &mut self.tables,
+            &mut self.room,
             command,
             number,
             how,

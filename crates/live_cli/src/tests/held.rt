@@ -1,6 +1,6 @@
 //! Loads whose workers a gate holds.
 
-ghost use Rattle.std.specs.Prelude.{◌≡◌, ◌≤◌, false};
+ghost use Rattle.std.specs.Prelude.{false};
 ghost use Rattle.item_text.specs.Items.{item_line as line_of};
 ghost use Rattle.play_laws.proofs.Exist.{always_runs as runs_always, ran_grows};
 ghost use Rattle.uc_live.specs.Runs.{runs_of};
@@ -120,9 +120,10 @@ impl<R: Threads + Wait> Rendezvous for StagedRun<'_, '_, R> {
         plan: &Plan,
         _beats: &[Beat],
         _out: &mut S,
-    ) -> Result<Outcome, RunAnswer> {
-        match self.live.hold(alloc, plan) {
-            Ok(outcome) => Ok(outcome),
+        outcome: &mut Outcome,
+    ) -> Result<(), RunAnswer> {
+        match self.live.hold(alloc, plan, outcome) {
+            Ok(()) => Ok(()),
             Err(RunAnswer::NoMemory) => Err(RunAnswer::NoMemory),
             Err(RunAnswer::WriteFault) => unreachable!(),
         }

@@ -1,4 +1,4 @@
-ghost use Rattle.std.specs.Prelude.{true, ℕ, []};
+ghost use Rattle.std.specs.Prelude.{true, []};
 ghost use Rattle.item_text.specs.Items.{item_line as line_of};
 ghost use Rattle.play_laws.proofs.Exist.{always_runs as runs_always, ran_grows};
 
@@ -32,7 +32,8 @@ impl Rendezvous for Asked {
         plan: &Plan,
         _beats: &[Beat],
         _out: &mut S,
-    ) -> Result<Outcome, RunAnswer> {
+        _outcome: &mut Outcome,
+    ) -> Result<(), RunAnswer> {
         self.patience = plan.patience;
         Err(RunAnswer::NoMemory)
     }

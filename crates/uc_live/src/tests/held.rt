@@ -98,7 +98,9 @@ fn outcome_of<R: Threads + Wait>(
     requires few { plan.now.threads ≤ 32 }
 {
     let mut live = LiveRun::new(rt, alloc, stage);
-    live.hold(alloc, plan)
+    let mut outcome = Outcome::new();
+    live.hold(alloc, plan, &mut outcome)?;
+    Ok(outcome)
 }
 
 /// Whether two threads on one core, the second of this kind, come to this with so much patience.

@@ -10,7 +10,7 @@ use Rattle.script_text.specs.declared.command.Command.TheVariants.{Load as LoadC
 use Rattle.session_text.specs.declared.answers.CommandAnswer.TheVariants.{Load}
 use Rattle.session_text.specs.declared.answers.Played.{Played}
 use Rattle.session_steps.specs.State.{Setting, State, machine_of}
-use Rattle.session_steps.specs.Offers.{load_offers_text, plan_of as load_plan}
+use Rattle.session_steps.specs.Offers.{plan_of as load_plan}
 use Rattle.session_steps.specs.Did.{loaded, results_text}
 use Rattle.session_text.specs.Lines.{answer_line}
 use Rattle.session_text.specs.declared.answers.CommandAnswer.{CommandAnswer}
@@ -22,7 +22,6 @@ use Rattle.ctl_words.specs.Plans.{plan_of}
 use Rattle.ctl_core.specs.Outcomes.{outcome_of}
 use Rattle.uc_topology.specs.Stated.{Machine, group_count}
 use Rattle.uc_session.specs.Acts.{Stage}
-use Rattle.uc_session.specs.Meeting.{Meets}
 use Rattle.uc_session.specs.Loads.{ready_of, Refuses, Stops}
 use Rattle.uc_session.specs.Playing.{Does}
 use Rattle.uc_session.proofs.Acting.{by_answer}
@@ -71,8 +70,8 @@ returns-in-Err-NoMemory-clause-does g c =
 
 -- ---- one that does
 
-pub offer_and_run-met-requires-clause-sound : goal.offer_and_run-met-requires-clause-sound
-offer_and_run-met-requires-clause-sound g c =
+pub offer_and_run-requires-clause-sound : goal.offer_and_run-requires-clause-sound
+offer_and_run-requires-clause-sound g c =
     let held = HeldWhere (g.F.Pieces.tells c.args.files.now) (g.F.Files.holds c.args.files.now) in
     let before : Stage = record { state = state_of c.args.parts.now; files = g.F.Pieces.faults c.args.files.now } in
     let now : Stage = record { state = state_of c.set_out.new.parts; files = g.F.Pieces.faults c.set_out.new.files } in
@@ -82,8 +81,8 @@ offer_and_run-met-requires-clause-sound g c =
     c.tables_end.ensures in
     loading.is_sound held (setting_of c.set_out.new.parts) c.args.force c.args.names.now before now (ready_of c.in-Ok.catalog c.set_out.new.tables) c.plan.new.plan known
 
-pub offer_and_run-met-requires-clause-few : goal.offer_and_run-met-requires-clause-few
-offer_and_run-met-requires-clause-few g c =
+pub offer_and_run-requires-clause-few : goal.offer_and_run-requires-clause-few
+offer_and_run-requires-clause-few g c =
     let held = HeldWhere (g.F.Pieces.tells c.args.files.now) (g.F.Files.holds c.args.files.now) in
     let before : Stage = record { state = state_of c.args.parts.now; files = g.F.Pieces.faults c.args.files.now } in
     let now : Stage = record { state = state_of c.set_out.new.parts; files = g.F.Pieces.faults c.set_out.new.files } in
@@ -95,8 +94,8 @@ offer_and_run-met-requires-clause-few g c =
     (ap (λ (s : Setting). (machine_of s).threads) (sym c.in-Ok.ensures.setting) ∙ sym (loading.threads_are held (setting_of c.set_out.new.parts) c.args.force c.args.names.now before now (ready_of c.in-Ok.catalog c.set_out.new.tables) c.plan.new.plan known))
     c.requires.most
 
-pub offer_and_run-met-requires-clause-in_range : goal.offer_and_run-met-requires-clause-in_range
-offer_and_run-met-requires-clause-in_range g c =
+pub offer_and_run-requires-clause-in_range : goal.offer_and_run-requires-clause-in_range
+offer_and_run-requires-clause-in_range g c =
     let held = HeldWhere (g.F.Pieces.tells c.args.files.now) (g.F.Files.holds c.args.files.now) in
     let before : Stage = record { state = state_of c.args.parts.now; files = g.F.Pieces.faults c.args.files.now } in
     let now : Stage = record { state = state_of c.set_out.new.parts; files = g.F.Pieces.faults c.set_out.new.files } in
@@ -125,15 +124,14 @@ returns-in-Err-clause-does g c =
     let came =
     loading.stopped held (setting_of c.set_out.new.parts) c.args.force c.args.names.now before now (ready_of c.in-Ok.catalog c.set_out.new.tables) c.plan.new.plan known
     (record { stands = g.S.Sink.stands; faults = g.S.Sink.faults; lists = g.R.Rendezvous.lists }) c.args.beats.now
-    (record { runs = g.R.Rendezvous.runs c.args.how.now; sink = c.args.out.now }) (g.R.Rendezvous.runs c.offer_and_run-met.new.how) c.offer_and_run-met.new.out c.the_verdict_is_the_first_that_holds.ensures.holds c.in-Err.answer
-    (λ s state p is_machine is_plan. subst (Meets (record { stands = g.S.Sink.stands; faults = g.S.Sink.faults; lists = g.R.Rendezvous.lists }) (plan_of c.plan.new.plan) c.args.beats.now (load_offers_text s state c.in-Ok.catalog.entries c.set_out.new.tables.offers.items) (record { runs = g.R.Rendezvous.runs c.args.how.now; sink = c.args.out.now }) (record { runs = g.R.Rendezvous.runs c.offer_and_run-met.new.how; sink = c.offer_and_run-met.new.out }))
-    c.in-Err.is (c.offer_and_run-met.ensures.meets s state p (is_machine ∙ sym c.topology.ensures.machine) is_plan))
+    (record { runs = g.R.Rendezvous.runs c.args.how.now; sink = c.args.out.now }) (g.R.Rendezvous.runs c.offer_and_run.new.how) c.offer_and_run.new.out c.the_verdict_is_the_first_that_holds.ensures.holds c.in-Err.answer
+    (λ s state p is_machine is_plan. c.in-Err.ensures.meets s state p (is_machine ∙ sym c.topology.ensures.machine) is_plan)
     (state_of c.take_back.new.self)
     (c.take_back.ensures.back (setting_of c.set_out.new.parts) _ _ (state_of c.args.parts.now)
     (subst (λ (all : List (Option PatchId)). IsPut (setting_of c.set_out.new.parts) c.in-Ok.catalog.entries c.set_out.new.tables.offers.items (state_of c.args.parts.now) (state_of c.set_out.new.parts) all)
     (sym c.as_slice-in-Err.ensures.value) known.sets.from.put)) in
-    subst (λ (s : Setting). Does outside s one found (record { state = state_of c.take_back.new.self; files = g.F.Pieces.faults c.set_out.new.files; runs = g.R.Rendezvous.runs c.offer_and_run-met.new.how; sink = c.offer_and_run-met.new.out }) c.cut_short.result)
-    c.in-Ok.ensures.setting (subst (λ (come : Played). Does outside (setting_of c.set_out.new.parts) one found (record { state = state_of c.take_back.new.self; files = g.F.Pieces.faults c.set_out.new.files; runs = g.R.Rendezvous.runs c.offer_and_run-met.new.how; sink = c.offer_and_run-met.new.out }) come)
+    subst (λ (s : Setting). Does outside s one found (record { state = state_of c.take_back.new.self; files = g.F.Pieces.faults c.set_out.new.files; runs = g.R.Rendezvous.runs c.offer_and_run.new.how; sink = c.offer_and_run.new.out }) c.cut_short.result)
+    c.in-Ok.ensures.setting (subst (λ (come : Played). Does outside (setting_of c.set_out.new.parts) one found (record { state = state_of c.take_back.new.self; files = g.F.Pieces.faults c.set_out.new.files; runs = g.R.Rendezvous.runs c.offer_and_run.new.how; sink = c.offer_and_run.new.out }) come)
     (sym c.cut_short.ensures) came)
 
 pub finish_load-requires-clause-power : goal.finish_load-requires-clause-power
@@ -158,9 +156,8 @@ finish_load-requires-clause-revs g c =
     c.tables_end.ensures in
     ap length c.as_slice-3.ensures.value ∙ loading.revs_count held (setting_of c.set_out.new.parts) c.args.force c.args.names.now before now (ready_of c.in-Ok.catalog c.set_out.new.tables) c.plan.new.plan known
     (record { stands = g.S.Sink.stands; faults = g.S.Sink.faults; lists = g.R.Rendezvous.lists }) c.args.beats.now
-    (record { runs = g.R.Rendezvous.runs c.args.how.now; sink = c.args.out.now }) (g.R.Rendezvous.runs c.offer_and_run-met.new.how) c.offer_and_run-met.new.out c.each_event_keeps_the_rule.ensures.event c.each_event_keeps_the_rule.ensures.opening c.in-Ok-met.outcome
-    (λ s state p is_machine is_plan. subst (Meets (record { stands = g.S.Sink.stands; faults = g.S.Sink.faults; lists = g.R.Rendezvous.lists }) (plan_of c.plan.new.plan) c.args.beats.now (load_offers_text s state c.in-Ok.catalog.entries c.set_out.new.tables.offers.items) (record { runs = g.R.Rendezvous.runs c.args.how.now; sink = c.args.out.now }) (record { runs = g.R.Rendezvous.runs c.offer_and_run-met.new.how; sink = c.offer_and_run-met.new.out }))
-    c.in-Ok-met.is (c.offer_and_run-met.ensures.meets s state p (is_machine ∙ sym c.topology.ensures.machine) is_plan))
+    (record { runs = g.R.Rendezvous.runs c.args.how.now; sink = c.args.out.now }) (g.R.Rendezvous.runs c.offer_and_run.new.how) c.offer_and_run.new.out c.each_event_keeps_the_rule.ensures.event c.each_event_keeps_the_rule.ensures.opening c.offer_and_run.new.outcome
+    (λ s state p is_machine is_plan. c.in-Ok-offer_and_run.ensures.meets s state p (is_machine ∙ sym c.topology.ensures.machine) is_plan)
 
 pub finish_load-requires-clause-no_lower : goal.finish_load-requires-clause-no_lower
 finish_load-requires-clause-no_lower g c =
@@ -175,9 +172,8 @@ finish_load-requires-clause-no_lower g c =
     subst (λ (revs : List ℕ). (state_of c.set_out.new.parts).hardware.rev group ≤ slice_index revs group) (sym c.as_slice-3.ensures.value)
     (loading.no_lower held (setting_of c.set_out.new.parts) c.args.force c.args.names.now before now (ready_of c.in-Ok.catalog c.set_out.new.tables) c.plan.new.plan known
     (record { stands = g.S.Sink.stands; faults = g.S.Sink.faults; lists = g.R.Rendezvous.lists }) c.args.beats.now
-    (record { runs = g.R.Rendezvous.runs c.args.how.now; sink = c.args.out.now }) (g.R.Rendezvous.runs c.offer_and_run-met.new.how) c.offer_and_run-met.new.out c.each_event_keeps_the_rule.ensures.event c.each_event_keeps_the_rule.ensures.opening c.in-Ok-met.outcome
-    (λ s state p is_machine is_plan. subst (Meets (record { stands = g.S.Sink.stands; faults = g.S.Sink.faults; lists = g.R.Rendezvous.lists }) (plan_of c.plan.new.plan) c.args.beats.now (load_offers_text s state c.in-Ok.catalog.entries c.set_out.new.tables.offers.items) (record { runs = g.R.Rendezvous.runs c.args.how.now; sink = c.args.out.now }) (record { runs = g.R.Rendezvous.runs c.offer_and_run-met.new.how; sink = c.offer_and_run-met.new.out }))
-    c.in-Ok-met.is (c.offer_and_run-met.ensures.meets s state p (is_machine ∙ sym c.topology.ensures.machine) is_plan)) g.met.R.Rendezvous.never_falls group below)
+    (record { runs = g.R.Rendezvous.runs c.args.how.now; sink = c.args.out.now }) (g.R.Rendezvous.runs c.offer_and_run.new.how) c.offer_and_run.new.out c.each_event_keeps_the_rule.ensures.event c.each_event_keeps_the_rule.ensures.opening c.offer_and_run.new.outcome
+    (λ s state p is_machine is_plan. c.in-Ok-offer_and_run.ensures.meets s state p (is_machine ∙ sym c.topology.ensures.machine) is_plan) g.met.R.Rendezvous.never_falls group below)
 
 pub verdict-requires-clause-ends : goal.verdict-requires-clause-ends
 verdict-requires-clause-ends g c =
@@ -190,9 +186,8 @@ verdict-requires-clause-ends g c =
     c.tables_end.ensures in
     loading.ends_count held (setting_of c.set_out.new.parts) c.args.force c.args.names.now before now (ready_of c.in-Ok.catalog c.set_out.new.tables) c.plan.new.plan known
     (record { stands = g.S.Sink.stands; faults = g.S.Sink.faults; lists = g.R.Rendezvous.lists }) c.args.beats.now
-    (record { runs = g.R.Rendezvous.runs c.args.how.now; sink = c.args.out.now }) (g.R.Rendezvous.runs c.offer_and_run-met.new.how) c.offer_and_run-met.new.out c.each_event_keeps_the_rule.ensures.event c.each_event_keeps_the_rule.ensures.opening c.in-Ok-met.outcome
-    (λ s state p is_machine is_plan. subst (Meets (record { stands = g.S.Sink.stands; faults = g.S.Sink.faults; lists = g.R.Rendezvous.lists }) (plan_of c.plan.new.plan) c.args.beats.now (load_offers_text s state c.in-Ok.catalog.entries c.set_out.new.tables.offers.items) (record { runs = g.R.Rendezvous.runs c.args.how.now; sink = c.args.out.now }) (record { runs = g.R.Rendezvous.runs c.offer_and_run-met.new.how; sink = c.offer_and_run-met.new.out }))
-    c.in-Ok-met.is (c.offer_and_run-met.ensures.meets s state p (is_machine ∙ sym c.topology.ensures.machine) is_plan))
+    (record { runs = g.R.Rendezvous.runs c.args.how.now; sink = c.args.out.now }) (g.R.Rendezvous.runs c.offer_and_run.new.how) c.offer_and_run.new.out c.each_event_keeps_the_rule.ensures.event c.each_event_keeps_the_rule.ensures.opening c.offer_and_run.new.outcome
+    (λ s state p is_machine is_plan. c.in-Ok-offer_and_run.ensures.meets s state p (is_machine ∙ sym c.topology.ensures.machine) is_plan)
 
 pub verdict-requires-clause-decide : goal.verdict-requires-clause-decide
 verdict-requires-clause-decide g c =
@@ -205,9 +200,8 @@ verdict-requires-clause-decide g c =
     c.tables_end.ensures in
     loading.decided held (setting_of c.set_out.new.parts) c.args.force c.args.names.now before now (ready_of c.in-Ok.catalog c.set_out.new.tables) c.plan.new.plan known
     (record { stands = g.S.Sink.stands; faults = g.S.Sink.faults; lists = g.R.Rendezvous.lists }) c.args.beats.now
-    (record { runs = g.R.Rendezvous.runs c.args.how.now; sink = c.args.out.now }) (g.R.Rendezvous.runs c.offer_and_run-met.new.how) c.offer_and_run-met.new.out c.each_event_keeps_the_rule.ensures.event c.each_event_keeps_the_rule.ensures.opening c.in-Ok-met.outcome
-    (λ s state p is_machine is_plan. subst (Meets (record { stands = g.S.Sink.stands; faults = g.S.Sink.faults; lists = g.R.Rendezvous.lists }) (plan_of c.plan.new.plan) c.args.beats.now (load_offers_text s state c.in-Ok.catalog.entries c.set_out.new.tables.offers.items) (record { runs = g.R.Rendezvous.runs c.args.how.now; sink = c.args.out.now }) (record { runs = g.R.Rendezvous.runs c.offer_and_run-met.new.how; sink = c.offer_and_run-met.new.out }))
-    c.in-Ok-met.is (c.offer_and_run-met.ensures.meets s state p (is_machine ∙ sym c.topology.ensures.machine) is_plan))
+    (record { runs = g.R.Rendezvous.runs c.args.how.now; sink = c.args.out.now }) (g.R.Rendezvous.runs c.offer_and_run.new.how) c.offer_and_run.new.out c.each_event_keeps_the_rule.ensures.event c.each_event_keeps_the_rule.ensures.opening c.offer_and_run.new.outcome
+    (λ s state p is_machine is_plan. c.in-Ok-offer_and_run.ensures.meets s state p (is_machine ∙ sym c.topology.ensures.machine) is_plan)
 
 pub put_end-requires : goal.put_end-requires
 put_end-requires g c =
@@ -220,9 +214,8 @@ put_end-requires g c =
     c.tables_end.ensures in
     loading.revs_count held (setting_of c.set_out.new.parts) c.args.force c.args.names.now before now (ready_of c.in-Ok.catalog c.set_out.new.tables) c.plan.new.plan known
     (record { stands = g.S.Sink.stands; faults = g.S.Sink.faults; lists = g.R.Rendezvous.lists }) c.args.beats.now
-    (record { runs = g.R.Rendezvous.runs c.args.how.now; sink = c.args.out.now }) (g.R.Rendezvous.runs c.offer_and_run-met.new.how) c.offer_and_run-met.new.out c.each_event_keeps_the_rule.ensures.event c.each_event_keeps_the_rule.ensures.opening c.in-Ok-met.outcome
-    (λ s state p is_machine is_plan. subst (Meets (record { stands = g.S.Sink.stands; faults = g.S.Sink.faults; lists = g.R.Rendezvous.lists }) (plan_of c.plan.new.plan) c.args.beats.now (load_offers_text s state c.in-Ok.catalog.entries c.set_out.new.tables.offers.items) (record { runs = g.R.Rendezvous.runs c.args.how.now; sink = c.args.out.now }) (record { runs = g.R.Rendezvous.runs c.offer_and_run-met.new.how; sink = c.offer_and_run-met.new.out }))
-    c.in-Ok-met.is (c.offer_and_run-met.ensures.meets s state p (is_machine ∙ sym c.topology.ensures.machine) is_plan))
+    (record { runs = g.R.Rendezvous.runs c.args.how.now; sink = c.args.out.now }) (g.R.Rendezvous.runs c.offer_and_run.new.how) c.offer_and_run.new.out c.each_event_keeps_the_rule.ensures.event c.each_event_keeps_the_rule.ensures.opening c.offer_and_run.new.outcome
+    (λ s state p is_machine is_plan. c.in-Ok-offer_and_run.ensures.meets s state p (is_machine ∙ sym c.topology.ensures.machine) is_plan)
     ∙ ap (λ (s : Setting). (machine_of s).groups) (sym c.finish_load.ensures.setting)
     ∙ ap (λ (m : Machine). group_count m.stated.cores) (sym c.topology-2.ensures.machine)
 
@@ -242,7 +235,7 @@ returns-in-Ok-put_end-clause-does g c =
     (λ (all : List (Option PatchId)). (entries : List Entry) (offers : List (Option ℕ)) (before : State) (outcome : Outcome) (put : IsPut (setting_of c.set_out.new.parts) entries offers before (state_of c.set_out.new.parts) all) → plan_of c.plan.new.plan ≡ load_plan (setting_of c.set_out.new.parts) before put.puts offers → outcome.revs ≡ c.as_slice-3.result.now → state_of c.finish_load.new.self ≡ loaded (setting_of c.set_out.new.parts) before put.puts offers (plan_of c.plan.new.plan) outcome)
     c.as_slice-2.ensures.value c.finish_load.ensures.kept in
     let wrote =
-    subst (λ (a : CommandAnswer). Writes {E = SinkFailed} g.S.Sink.stands g.S.Sink.faults c.offer_and_run-met.new.out c.put_end.new.out (results_text (setting_of c.set_out.new.parts) (state_of c.args.parts.now) (plan_of c.plan.new.plan) (outcome_of c.in-Ok-met.outcome) ++ answer_line c.args.names.now a) (Ok tt)) same
+    subst (λ (a : CommandAnswer). Writes {E = SinkFailed} g.S.Sink.stands g.S.Sink.faults c.offer_and_run.new.out c.put_end.new.out (results_text (setting_of c.set_out.new.parts) (state_of c.args.parts.now) (plan_of c.plan.new.plan) (outcome_of c.offer_and_run.new.outcome) ++ answer_line c.args.names.now a) (Ok tt)) same
     (c.in-Ok-put_end.ensures (setting_of c.set_out.new.parts) (state_of c.args.parts.now) known.sets.from.put.puts c.set_out.new.tables.offers.items
     (sym (c.topology-2.ensures.machine ∙ ap (λ (s : Setting). s.machine) c.finish_load.ensures.setting)) made) in
     let one = LoadCommand c.args.force c.args.names.now c.args.beats.now in
@@ -253,14 +246,13 @@ returns-in-Ok-put_end-clause-does g c =
     let came =
     loading.finished held (setting_of c.set_out.new.parts) c.args.force c.args.names.now before now (ready_of c.in-Ok.catalog c.set_out.new.tables) c.plan.new.plan known
     (record { stands = g.S.Sink.stands; faults = g.S.Sink.faults; lists = g.R.Rendezvous.lists }) c.args.beats.now
-    (record { runs = g.R.Rendezvous.runs c.args.how.now; sink = c.args.out.now }) (g.R.Rendezvous.runs c.offer_and_run-met.new.how) c.offer_and_run-met.new.out c.each_event_keeps_the_rule.ensures.event c.each_event_keeps_the_rule.ensures.opening c.in-Ok-met.outcome
-    (λ s state p is_machine is_plan. subst (Meets (record { stands = g.S.Sink.stands; faults = g.S.Sink.faults; lists = g.R.Rendezvous.lists }) (plan_of c.plan.new.plan) c.args.beats.now (load_offers_text s state c.in-Ok.catalog.entries c.set_out.new.tables.offers.items) (record { runs = g.R.Rendezvous.runs c.args.how.now; sink = c.args.out.now }) (record { runs = g.R.Rendezvous.runs c.offer_and_run-met.new.how; sink = c.offer_and_run-met.new.out }))
-    c.in-Ok-met.is (c.offer_and_run-met.ensures.meets s state p (is_machine ∙ sym c.topology.ensures.machine) is_plan)) {E = SinkFailed}
+    (record { runs = g.R.Rendezvous.runs c.args.how.now; sink = c.args.out.now }) (g.R.Rendezvous.runs c.offer_and_run.new.how) c.offer_and_run.new.out c.each_event_keeps_the_rule.ensures.event c.each_event_keeps_the_rule.ensures.opening c.offer_and_run.new.outcome
+    (λ s state p is_machine is_plan. c.in-Ok-offer_and_run.ensures.meets s state p (is_machine ∙ sym c.topology.ensures.machine) is_plan) {E = SinkFailed}
     c.verdict.ensures.verdict c.put_end.new.out (Ok tt) (state_of c.finish_load.new.self) c.verdict.ensures.holds
-    (kept c.in-Ok.catalog.entries c.set_out.new.tables.offers.items (state_of c.args.parts.now) (outcome_of c.in-Ok-met.outcome) known.sets.from.put made (sym c.as_slice-3.ensures.value))
+    (kept c.in-Ok.catalog.entries c.set_out.new.tables.offers.items (state_of c.args.parts.now) (outcome_of c.offer_and_run.new.outcome) known.sets.from.put made (sym c.as_slice-3.ensures.value))
     wrote in
-    subst (λ (s : Setting). Does outside s one found (record { state = state_of c.finish_load.new.self; files = g.F.Pieces.faults c.set_out.new.files; runs = g.R.Rendezvous.runs c.offer_and_run-met.new.how; sink = c.put_end.new.out }) (Answered c.command_answer-answer.result))
-    c.in-Ok.ensures.setting (subst (λ (a : CommandAnswer). Does outside (setting_of c.set_out.new.parts) one found (record { state = state_of c.finish_load.new.self; files = g.F.Pieces.faults c.set_out.new.files; runs = g.R.Rendezvous.runs c.offer_and_run-met.new.how; sink = c.put_end.new.out }) (Answered a)) (sym same) came)
+    subst (λ (s : Setting). Does outside s one found (record { state = state_of c.finish_load.new.self; files = g.F.Pieces.faults c.set_out.new.files; runs = g.R.Rendezvous.runs c.offer_and_run.new.how; sink = c.put_end.new.out }) (Answered c.command_answer-answer.result))
+    c.in-Ok.ensures.setting (subst (λ (a : CommandAnswer). Does outside (setting_of c.set_out.new.parts) one found (record { state = state_of c.finish_load.new.self; files = g.F.Pieces.faults c.set_out.new.files; runs = g.R.Rendezvous.runs c.offer_and_run.new.how; sink = c.put_end.new.out }) (Answered a)) (sym same) came)
 
 pub returns-clause-does : goal.returns-clause-does
 returns-clause-does g c =
@@ -278,7 +270,7 @@ returns-clause-does g c =
     (λ (all : List (Option PatchId)). (entries : List Entry) (offers : List (Option ℕ)) (before : State) (outcome : Outcome) (put : IsPut (setting_of c.set_out.new.parts) entries offers before (state_of c.set_out.new.parts) all) → plan_of c.plan.new.plan ≡ load_plan (setting_of c.set_out.new.parts) before put.puts offers → outcome.revs ≡ c.as_slice-3.result.now → state_of c.finish_load.new.self ≡ loaded (setting_of c.set_out.new.parts) before put.puts offers (plan_of c.plan.new.plan) outcome)
     c.as_slice-2.ensures.value c.finish_load.ensures.kept in
     let wrote =
-    subst (λ (a : CommandAnswer). Writes {E = SinkFailed} g.S.Sink.stands g.S.Sink.faults c.offer_and_run-met.new.out c.put_end.new.out (results_text (setting_of c.set_out.new.parts) (state_of c.args.parts.now) (plan_of c.plan.new.plan) (outcome_of c.in-Ok-met.outcome) ++ answer_line c.args.names.now a) (Err c.in-Err-put_end.field-0)) same
+    subst (λ (a : CommandAnswer). Writes {E = SinkFailed} g.S.Sink.stands g.S.Sink.faults c.offer_and_run.new.out c.put_end.new.out (results_text (setting_of c.set_out.new.parts) (state_of c.args.parts.now) (plan_of c.plan.new.plan) (outcome_of c.offer_and_run.new.outcome) ++ answer_line c.args.names.now a) (Err c.in-Err-put_end.field-0)) same
     (c.in-Err-put_end.ensures (setting_of c.set_out.new.parts) (state_of c.args.parts.now) known.sets.from.put.puts c.set_out.new.tables.offers.items
     (sym (c.topology-2.ensures.machine ∙ ap (λ (s : Setting). s.machine) c.finish_load.ensures.setting)) made) in
     let one = LoadCommand c.args.force c.args.names.now c.args.beats.now in
@@ -289,11 +281,10 @@ returns-clause-does g c =
     let came =
     loading.finished held (setting_of c.set_out.new.parts) c.args.force c.args.names.now before now (ready_of c.in-Ok.catalog c.set_out.new.tables) c.plan.new.plan known
     (record { stands = g.S.Sink.stands; faults = g.S.Sink.faults; lists = g.R.Rendezvous.lists }) c.args.beats.now
-    (record { runs = g.R.Rendezvous.runs c.args.how.now; sink = c.args.out.now }) (g.R.Rendezvous.runs c.offer_and_run-met.new.how) c.offer_and_run-met.new.out c.each_event_keeps_the_rule.ensures.event c.each_event_keeps_the_rule.ensures.opening c.in-Ok-met.outcome
-    (λ s state p is_machine is_plan. subst (Meets (record { stands = g.S.Sink.stands; faults = g.S.Sink.faults; lists = g.R.Rendezvous.lists }) (plan_of c.plan.new.plan) c.args.beats.now (load_offers_text s state c.in-Ok.catalog.entries c.set_out.new.tables.offers.items) (record { runs = g.R.Rendezvous.runs c.args.how.now; sink = c.args.out.now }) (record { runs = g.R.Rendezvous.runs c.offer_and_run-met.new.how; sink = c.offer_and_run-met.new.out }))
-    c.in-Ok-met.is (c.offer_and_run-met.ensures.meets s state p (is_machine ∙ sym c.topology.ensures.machine) is_plan)) {E = SinkFailed}
+    (record { runs = g.R.Rendezvous.runs c.args.how.now; sink = c.args.out.now }) (g.R.Rendezvous.runs c.offer_and_run.new.how) c.offer_and_run.new.out c.each_event_keeps_the_rule.ensures.event c.each_event_keeps_the_rule.ensures.opening c.offer_and_run.new.outcome
+    (λ s state p is_machine is_plan. c.in-Ok-offer_and_run.ensures.meets s state p (is_machine ∙ sym c.topology.ensures.machine) is_plan) {E = SinkFailed}
     c.verdict.ensures.verdict c.put_end.new.out (Err c.in-Err-put_end.field-0) (state_of c.finish_load.new.self) c.verdict.ensures.holds
-    (kept c.in-Ok.catalog.entries c.set_out.new.tables.offers.items (state_of c.args.parts.now) (outcome_of c.in-Ok-met.outcome) known.sets.from.put made (sym c.as_slice-3.ensures.value))
+    (kept c.in-Ok.catalog.entries c.set_out.new.tables.offers.items (state_of c.args.parts.now) (outcome_of c.offer_and_run.new.outcome) known.sets.from.put made (sym c.as_slice-3.ensures.value))
     wrote in
-    subst (λ (s : Setting). Does outside s one found (record { state = state_of c.finish_load.new.self; files = g.F.Pieces.faults c.set_out.new.files; runs = g.R.Rendezvous.runs c.offer_and_run-met.new.how; sink = c.put_end.new.out }) WriteFault)
+    subst (λ (s : Setting). Does outside s one found (record { state = state_of c.finish_load.new.self; files = g.F.Pieces.faults c.set_out.new.files; runs = g.R.Rendezvous.runs c.offer_and_run.new.how; sink = c.put_end.new.out }) WriteFault)
     c.in-Ok.ensures.setting came

@@ -14,4 +14,4 @@ returns-in_err-play_beats-clause-played g c =
 pub returns-clause-played : goal.returns-clause-played
 returns-clause-played g c =
     let plays = played_at g.S.Sink.stands g.S.Sink.faults _ (plan_of c.args.plan.now) _ _ c.args.beats.now c.args.out.now c.play_beats.new.out _ c.in_ok-core.ensures.plan c.in_ok-core.ensures.opening c.in_ok-play_beats.ensures.plays in
-    (plays.wrote.outcome, shows_at _ (plan_of c.args.plan.now) _ _ (outcome_of c.outcome.result) (c.in_ok-play_beats.ensures.plan ∙ c.in_ok-core.ensures.plan) plays.came c.outcome.ensures)
+    (plays.wrote.outcome, shows_at _ (plan_of c.args.plan.now) _ _ (outcome_of c.fill_outcome.new.outcome) (c.in_ok-play_beats.ensures.plan ∙ c.in_ok-core.ensures.plan) plays.came c.fill_outcome.ensures)
