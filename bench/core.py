@@ -114,7 +114,7 @@ fn load<S: Sink>(
     requires sound { IsSound plan.now }
     requires in_range { All (BeatInRange plan.now.threads) beats.now }
 {
-    let mut scheduled = Scheduled::new();
+    let mut scheduled = Scheduled::new(alloc);
     plan.threads <= scheduled.most() && scheduled.run(alloc, plan, beats, out, outcome).is_ok()
 }
 

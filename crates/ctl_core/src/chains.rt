@@ -1,6 +1,6 @@
 //! The threads of a plan, each with the one that comes next.
 
-ghost use Rattle.std.specs.Prelude.{◌≡◌, ◌+◌, ◌<◌, IfOk, None, replicate};
+ghost use Rattle.std.specs.Prelude.{◌≡◌, ◌+◌, ◌<◌, OnOk, None, replicate};
 ghost use Rattle.rendezvous_steps.specs.Plan.{offline_from};
 ghost use Rattle.ctl_words.specs.Plans.{plan_of, IsSound};
 ghost use Rattle.ctl_thread.specs.Links.{LinksMembers, LinksOffline};
@@ -21,6 +21,8 @@ pub struct Chains {
     offline: Vec<Option<u16>>,
     /// How many threads are Offline.
     offline_count: u16,
+    /// By group: the lowest thread so far, while the tables are made. It means nothing afterwards.
+    lowest: Vec<Option<u16>>,
 }
 
 impl Model for Chains {
@@ -36,16 +38,26 @@ impl Chains {
     ghost use Rattle.ctl_thread.specs.Links.{Linked};
     ghost use Rattle.ctl_core.specs.Chains.{Chained};
 
-    /// Links the threads of a plan. It answers want of memory and nothing else.
-    pub fn new(alloc: Global, plan: &Plan) -> Result<Chains, NoMemory>
+    /// The tables of no plan. It takes no memory.
+    pub fn none(alloc: Global) -> Chains {
+        Chains {
+            members: Vec::new(alloc),
+            offline: Vec::new(alloc),
+            offline_count: 0,
+            lowest: Vec::new(alloc),
+        }
+    }
+
+    /// Links the threads of a plan, in the room that there is, and takes memory only for more. It answers want of memory and
+    /// nothing else; what the tables hold means nothing then.
+    pub fn begin(&mut self, plan: &Plan) -> Result<(), NoMemory>
         requires { IsSound plan.now }
-        ensures { IfOk result (λ chains. Chained (plan_of plan.now) chains) }
+        ensures { OnOk result (Chained (plan_of plan.now) self.new) }
     {
-        Ok(Chains {
-            members: members(alloc, plan)?,
-            offline: offline(alloc, plan)?,
-            offline_count: plan.offline(),
-        })
+        fill_members(&mut self.members, &mut self.lowest, plan)?;
+        fill_offline(&mut self.offline, plan)?;
+        self.offline_count = plan.offline();
+        Ok(())
     }
 
     /// What the tables tell.
@@ -63,18 +75,22 @@ impl Chains {
 
 /// By thread, the next thread of its group that takes part. The threads are gone through from the last down, and the lowest
 /// so far of each group is kept.
-fn members(alloc: Global, plan: &Plan) -> Result<Vec<Option<u16>>, NoMemory>
+fn fill_members(
+    table: &mut Vec<Option<u16>>,
+    lowest: &mut Vec<Option<u16>>,
+    plan: &Plan,
+) -> Result<(), NoMemory>
     requires { IsSound plan.now }
-    ensures { IfOk result (λ table. LinksMembers (plan_of plan.now) table.items) }
+    ensures { OnOk result (LinksMembers (plan_of plan.now) table.new.items) }
 {
-    let mut table = nobody(alloc, plan.threads)?;
-    let mut lowest = nobody(alloc, plan.groups())?;
+    fill_nobody(table, plan.threads)?;
+    fill_nobody(lowest, plan.groups())?;
     let mut thread = plan.threads;
     while thread > 0 {
         thread -= 1;
-        link(plan, thread, &mut table, &mut lowest);
+        link(plan, thread, table, lowest);
     }
-    Ok(table)
+    Ok(())
 }
 
 /// Links one thread to the lowest of its group after it.
@@ -91,10 +107,10 @@ fn link(plan: &Plan, thread: u16, table: &mut Vec<Option<u16>>, lowest: &mut Vec
 }
 
 /// By thread, the first Offline thread from it on.
-fn offline(alloc: Global, plan: &Plan) -> Result<Vec<Option<u16>>, NoMemory>
-    ensures { IfOk result (λ table. LinksOffline (plan_of plan.now) table.items) }
+fn fill_offline(table: &mut Vec<Option<u16>>, plan: &Plan) -> Result<(), NoMemory>
+    ensures { OnOk result (LinksOffline (plan_of plan.now) table.new.items) }
 {
-    let mut table = nobody(alloc, plan.threads)?;
+    fill_nobody(table, plan.threads)?;
     let mut next = None;
     let mut thread = plan.threads;
     while thread > 0 {
@@ -102,7 +118,7 @@ fn offline(alloc: Global, plan: &Plan) -> Result<Vec<Option<u16>>, NoMemory>
         next = or_this(plan, thread, next);
         table[usize::from(thread)] = next;
     }
-    Ok(table)
+    Ok(())
 }
 
 /// The thread, where it is Offline, or else the first after it.
@@ -118,8 +134,10 @@ fn or_this(plan: &Plan, thread: u16, next: Option<u16>) -> Option<u16>
     }
 }
 
-fn nobody(alloc: Global, count: u16) -> Result<Vec<Option<u16>>, NoMemory>
-    ensures { IfOk result (λ table. table.items ≡ replicate count None) }
+fn fill_nobody(table: &mut Vec<Option<u16>>, count: u16) -> Result<(), NoMemory>
+    ensures { OnOk result (table.new.items ≡ replicate count None) }
 {
-    Ok(vec![in alloc; None; usize::from(count)]?)
+    table.clear();
+    table.resize(usize::from(count), None)?;
+    Ok(())
 }

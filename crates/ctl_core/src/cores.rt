@@ -42,12 +42,28 @@ impl<'a> Core<'a> {
         ensures spent { IfOk result (λ core. spent_in core ≡ 0) }
         ensures lawful { IfOk result (λ core. Lawful (plan_in core) (moment_in core)) }
     {
-        let moment = Moment::new(alloc, plan)?;
+        Core::over(Moment::none(alloc), plan)
+    }
+
+    /// The same in the room of an earlier moment.
+    pub(crate) fn over(mut moment: Moment, plan: &'a Plan) -> Result<Core<'a>, NoMemory>
+        requires { IsSound plan.now }
+        ensures plan { IfOk result (λ core. plan_in core ≡ plan_of plan.now) }
+        ensures opening { IfOk result (λ core. moment_in core ≡ opening_running (plan_of plan.now)) }
+        ensures spent { IfOk result (λ core. spent_in core ≡ 0) }
+        ensures lawful { IfOk result (λ core. Lawful (plan_in core) (moment_in core)) }
+    {
+        moment.begin(plan)?;
         Ok(Core {
             plan,
             moment,
             spent: 0,
         })
+    }
+
+    /// Its moment, for the room that it has.
+    pub(crate) fn into_moment(self) -> Moment {
+        self.moment
     }
 
     /// How many threads the plan has.

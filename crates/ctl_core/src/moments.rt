@@ -1,6 +1,6 @@
 //! The state between two events, and one event.
 
-ghost use Rattle.std.specs.Prelude.{◌≡◌, ◌<◌, ◌||◌, ◌^◌, ℕ, false, map, length, replicate, slice_set, IfOk, IsTrue, Some, None};
+ghost use Rattle.std.specs.Prelude.{◌≡◌, ◌<◌, ◌||◌, ◌^◌, ℕ, false, map, length, replicate, slice_set, OnOk, IsTrue, Some, None};
 ghost use Rattle.rendezvous_steps.specs.declared.operations.Word.TheVariants.{Rev, Decide as DecideWord};
 ghost use Rattle.rendezvous_steps.specs.declared.steps.How.TheVariants.{Step as StepHow};
 ghost use Rattle.rendezvous_steps.specs.declared.steps.Kind.TheVariants.{Online, Offline};
@@ -62,24 +62,31 @@ const NOWHERE: Local = Local {
 };
 
 impl Moment {
-    /// The state in which a rendezvous with this plan begins. It answers want of memory and nothing else.
-    pub fn new(alloc: Global, plan: &Plan) -> Result<Moment, NoMemory>
+    /// The state of no rendezvous. It takes no memory.
+    pub fn none(alloc: Global) -> Moment {
+        Moment {
+            words: PlainWords::none(alloc),
+            locals: Vec::new(alloc),
+            latched: Vec::new(alloc),
+            unfinished: 0,
+            chains: Chains::none(alloc),
+        }
+    }
+
+    /// Becomes the state in which a rendezvous with this plan begins, in the room that there is, and takes memory only for
+    /// more. It answers want of memory and nothing else; the state means nothing then.
+    pub fn begin(&mut self, plan: &Plan) -> Result<(), NoMemory>
         requires { IsSound plan.now }
-        ensures fits { IfOk result (λ moment. Fits (plan_of plan.now) moment) }
-        ensures opening { IfOk result (λ moment. running_of moment ≡ opening_running (plan_of plan.now)) }
+        ensures fits { OnOk result (Fits (plan_of plan.now) self.new) }
+        ensures opening { OnOk result (running_of self.new ≡ opening_running (plan_of plan.now)) }
     {
-        let words = PlainWords::new(alloc, plan)?;
-        let locals = openings(alloc, plan)?;
-        let latched = no_latches(alloc, plan.threads)?;
-        let chains = Chains::new(alloc, plan)?;
+        self.words.begin(plan)?;
+        fill_openings(&mut self.locals, plan)?;
+        fill_latches(&mut self.latched, plan.threads)?;
+        self.chains.begin(plan)?;
         looks::revisions_are_small(plan);
-        Ok(Moment {
-            unfinished: looks::unfinished(&words, plan),
-            words,
-            locals,
-            latched,
-            chains,
-        })
+        self.unfinished = looks::unfinished(&self.words, plan);
+        Ok(())
     }
 
     /// How many threads are unfinished.
@@ -599,19 +606,21 @@ impl Moment {
 }
 
 /// Where each thread stands when a rendezvous begins.
-fn openings(alloc: Global, plan: &Plan) -> Result<Vec<Stand>, NoMemory>
+fn fill_openings(stands: &mut Vec<Stand>, plan: &Plan) -> Result<(), NoMemory>
     requires { IsSound plan.now }
-    ensures { IfOk result (λ stands. map local_of stands.items ≡ map (opening (plan_of plan.now)) (threads_from (plan_of plan.now) 0)) }
+    ensures { OnOk result (map local_of stands.new.items ≡ map (opening (plan_of plan.now)) (threads_from (plan_of plan.now) 0)) }
 {
-    let mut stands = Vec::with_capacity(alloc, usize::from(plan.threads))?;
+    stands.clear();
     for thread in 0..plan.threads {
         stands.push(Stand::of(opening(plan, thread)))?;
     }
-    Ok(stands)
+    Ok(())
 }
 
-fn no_latches(alloc: Global, threads: u16) -> Result<Vec<bool>, NoMemory>
-    ensures { IfOk result (λ latched. latched.items ≡ replicate threads false) }
+fn fill_latches(latched: &mut Vec<bool>, threads: u16) -> Result<(), NoMemory>
+    ensures { OnOk result (latched.new.items ≡ replicate threads false) }
 {
-    Ok(vec![in alloc; false; usize::from(threads)]?)
+    latched.clear();
+    latched.resize(usize::from(threads), false)?;
+    Ok(())
 }

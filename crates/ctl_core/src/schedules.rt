@@ -15,22 +15,30 @@ ghost use Rattle.play_laws.proofs.Exist.{always_runs as runs_always, ran_grows};
 
 use crate::cores::Core;
 use crate::item_lines::compose;
+use crate::moments::Moment;
 use crate::outcomes::Outcome;
 use crate::runs::{Rendezvous, RunAnswer};
 use arrayvec::ArrayVec;
 use ctl_words::Plan;
 use rendezvous_steps::{Beat, Event};
 use std::alloc::Global;
+use std::mem;
 use uc_io::{Sink, SinkFailed};
 
 /// Plays schedules: the events of the beats in order, each item by a line in one write, up to the first moment in which
 /// no thread is unfinished. After the first step it takes no memory.
-#[derive(Clone, Copy, Debug)]
-pub struct Scheduled;
+#[derive(Drop)]
+pub struct Scheduled {
+    /// The last moment of a run, whose room the next one takes. What it holds between two runs means nothing.
+    moment: Moment,
+}
 
 impl Scheduled {
-    pub fn new() -> Scheduled {
-        Scheduled
+    /// It takes no memory.
+    pub fn new(alloc: Global) -> Scheduled {
+        Scheduled {
+            moment: Moment::none(alloc),
+        }
     }
 
     /// Plays a whole schedule. After a write fault whole lines and a front of the next one were written.
@@ -48,9 +56,11 @@ impl Scheduled {
         ensures later { S.faults out.old ≤ S.faults out.new }
         ensures still { OnOk result (S.faults out.new ≡ S.faults out.old) }
     {
-        let mut core = Core::new(alloc, plan)?;
+        let moment = mem::replace(&mut self.moment, Moment::none(alloc));
+        let mut core = Core::over(moment, plan)?;
         play_beats(&mut core, beats, out)?;
         core.fill_outcome(outcome);
+        self.moment = core.into_moment();
         Ok(())
     }
 }

@@ -302,7 +302,7 @@ fn play(
     let schedule = beats.as_slice();
     assert!(rt; plan.sound());
     assert!(rt; are_in_range(schedule, plan.threads));
-    let mut scheduled = Scheduled::new();
+    let mut scheduled = Scheduled::new(alloc);
     assert!(rt; plan.threads <= scheduled.most());
     let mut outcome = Outcome::new();
     Ok(

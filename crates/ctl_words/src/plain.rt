@@ -1,6 +1,6 @@
 //! Control words in plain lists.
 
-ghost use Rattle.std.specs.Prelude.{◌≡◌, ◌*◌, IfOk, IsTrue, replicate, slice_index};
+ghost use Rattle.std.specs.Prelude.{◌≡◌, ◌*◌, IfOk, OnOk, IsTrue, replicate, slice_index};
 ghost use Rattle.std.specs.Prelude.{◌<◌};
 ghost use Rattle.rendezvous_steps.specs.Words.{opening_words};
 ghost use Rattle.ctl_words.specs.Plans.{plan_of, IsSound};
@@ -52,22 +52,42 @@ impl PlainWords {
         ensures words { IfOk result (λ words. has_word words ≡ is_word (plan_of plan.now)) }
         ensures opening { IfOk result (λ words. word_of words ≡ opening_words (plan_of plan.now)) }
     {
-        let threads = usize::from(plan.threads);
-        let mode = zeros(alloc, threads)?;
-        let ctrl = zeros(alloc, threads)?;
-        let nmi = zeros(alloc, threads)?;
-        let rev = revisions(alloc, plan)?;
-        let res = zeros(alloc, plan.primary.len())?;
-        Ok(PlainWords {
-            arrive: u64::from(plan.online()),
+        let mut words = PlainWords::none(alloc);
+        words.begin(plan)?;
+        Ok(words)
+    }
+
+    /// The words of no plan. It takes no memory.
+    pub fn none(alloc: Global) -> PlainWords {
+        PlainWords {
+            arrive: 0,
             off_in: 0,
             decide: 0,
-            mode,
-            ctrl,
-            nmi,
-            rev,
-            res,
-        })
+            mode: Vec::new(alloc),
+            ctrl: Vec::new(alloc),
+            nmi: Vec::new(alloc),
+            rev: Vec::new(alloc),
+            res: Vec::new(alloc),
+        }
+    }
+
+    /// Becomes the words of the plan with what they hold when a rendezvous begins, in the room that there is, and takes
+    /// memory only for more. It answers want of memory and nothing else; what the words hold means nothing then.
+    pub fn begin(&mut self, plan: &Plan) -> Result<(), NoMemory>
+        requires { IsSound plan.now }
+        ensures words { OnOk result (has_word self.new ≡ is_word (plan_of plan.now)) }
+        ensures opening { OnOk result (word_of self.new ≡ opening_words (plan_of plan.now)) }
+    {
+        let threads = usize::from(plan.threads);
+        fill_zeros(&mut self.mode, threads)?;
+        fill_zeros(&mut self.ctrl, threads)?;
+        fill_zeros(&mut self.nmi, threads)?;
+        fill_revisions(&mut self.rev, plan)?;
+        fill_zeros(&mut self.res, plan.primary.len())?;
+        self.arrive = u64::from(plan.online());
+        self.off_in = 0;
+        self.decide = 0;
+        Ok(())
     }
 
     /// What a word holds; a word that the plan has not holds 0.
@@ -112,21 +132,22 @@ fn entry(words: &Vec<u64>, at: u16) -> u64
     words.get(usize::from(at)).copied().unwrap_or(0)
 }
 
-fn zeros(alloc: Global, count: usize) -> Result<Vec<u64>, NoMemory>
-    ensures { IfOk result (λ words. words.items ≡ replicate count 0) }
+fn fill_zeros(words: &mut Vec<u64>, count: usize) -> Result<(), NoMemory>
+    ensures { OnOk result (words.new.items ≡ replicate count 0) }
 {
-    Ok(vec![in alloc; 0u64; count]?)
+    words.clear();
+    words.resize(count, 0)?;
+    Ok(())
 }
 
-fn revisions(alloc: Global, plan: &Plan) -> Result<Vec<u64>, NoMemory>
-    ensures { IfOk result (λ words. words.items ≡ plan.now.rev0.items) }
+fn fill_revisions(words: &mut Vec<u64>, plan: &Plan) -> Result<(), NoMemory>
+    ensures { OnOk result (words.new.items ≡ plan.now.rev0.items) }
 {
-    Ok(
-        plan.rev0
-            .iter()
-            .map(|revision| u64::from(*revision))
-            .collect(alloc)?,
-    )
+    words.clear();
+    for revision in plan.rev0.as_slice() {
+        words.push(u64::from(*revision))?;
+    }
+    Ok(())
 }
 
 impl Words for PlainWords {

@@ -68,7 +68,7 @@ fn play_generated(alloc: Global, number: u64) -> Result<(SessionAnswer, TallySin
         alloc,
         &machine,
         &script,
-        &mut Scheduled::new(),
+        &mut Scheduled::new(alloc),
         &mut files,
         &mut tally,
     );

@@ -25,7 +25,7 @@ fn the_region_holds_what_a_load_wrote(rt: HostRuntime) -> Result<(), Fail> {
     let mut files = MemFiles::new(alloc);
     files.put("a.bin", bytes.as_slice())?;
     let mut out = MemSink::new(alloc, 4_096)?;
-    let mut how = Scheduled::new();
+    let mut how = Scheduled::new(alloc);
     let boot = Command::Boot(Names::new(alloc));
     let played = session.run(alloc, &boot, 1, &mut how, &mut files, &mut out);
     assert_eq!(rt; played, Played::Answered(CommandAnswer::Done));

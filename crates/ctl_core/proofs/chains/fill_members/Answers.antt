@@ -2,11 +2,11 @@ use Rattle.std.proofs.Common.{◌≡◌, ℕ, ◌+◌, ◌-◌, ◌∙◌, Optio
 use Rattle.ctl_words.specs.Plans.{plan_of}
 use Rattle.ctl_core.specs.Chains.{Linking}
 use Rattle.ctl_core.proofs.Chaining.{linking-opens, linking-ends}
-use Rattle.ctl_core.proofs.chains.members.Goals as goal
+use Rattle.ctl_core.proofs.chains.fill_members.Goals as goal
 
 pub loop-thread-init : goal.loop-thread-init
 loop-thread-init c =
-    linking-opens (plan_of c.args.plan.now) _ _ c.in_ok-table.ensures (c.in_ok-lowest.ensures ∙ ap (λ n. replicate {A = Option ℕ} n None) c.groups.ensures.value)
+    linking-opens (plan_of c.args.plan.now) _ _ c.in_ok-fill_nobody.ensures (c.in_ok-fill_nobody-2.ensures ∙ ap (λ n. replicate {A = Option ℕ} n None) c.groups.ensures.value)
 
 pub link-requires-clause-linked : goal.link-requires-clause-linked
 link-requires-clause-linked c =

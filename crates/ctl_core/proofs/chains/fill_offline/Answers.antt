@@ -1,10 +1,10 @@
 use Rattle.std.proofs.Common.{◌≡◌, ◌+◌, ◌-◌, subst, arith}
 use Rattle.ctl_words.specs.Plans.{plan_of}
 use Rattle.ctl_core.proofs.Chaining.{Passed, passed-opens, passed-more, passed-ends}
-use Rattle.ctl_core.proofs.chains.offline.Goals as goal
+use Rattle.ctl_core.proofs.chains.fill_offline.Goals as goal
 
 pub loop-thread-init : goal.loop-thread-init
-loop-thread-init c = passed-opens (plan_of c.args.plan.now) c.in_ok-table.table.items c.in_ok-table.ensures
+loop-thread-init c = passed-opens (plan_of c.args.plan.now) c.fill_nobody.new.table.items c.in_ok-fill_nobody.ensures
 
 pub loop-thread-preserved : goal.loop-thread-preserved
 loop-thread-preserved c =

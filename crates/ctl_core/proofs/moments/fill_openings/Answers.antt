@@ -6,7 +6,7 @@ use Rattle.rendezvous_steps.specs.declared.steps.Local.{Local}
 use Rattle.rendezvous_steps.specs.StepTable.{opening}
 use Rattle.ctl_words.specs.Plans.{plan_of}
 use Rattle.ctl_core.specs.Stands.{local_of}
-use Rattle.ctl_core.proofs.moments.openings.Goals as goal
+use Rattle.ctl_core.proofs.moments.fill_openings.Goals as goal
 
 pub loop-thread-preserved : goal.loop-thread-preserved
 loop-thread-preserved c =
