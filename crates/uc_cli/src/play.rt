@@ -60,6 +60,13 @@ pub fn play<F: Files, S: Sink>(
         Ok(script) => script,
         Err(refusal) => return refuse(out, refusal),
     };
-    let answer = run_session(alloc, &machine, &script, &mut Scheduled::new(alloc), files, out);
+    let answer = run_session(
+        alloc,
+        &machine,
+        &script,
+        &mut Scheduled::new(alloc),
+        files,
+        out,
+    );
     end_session(out, answer)
 }

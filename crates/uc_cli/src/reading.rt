@@ -14,7 +14,7 @@ use uc_catalog::Catalog;
 use uc_io::{Files, ReadAnswer};
 use uc_script::{ScriptAnswer, read_script};
 use uc_topology::{TopoCause, TopoFault, Topology, read_topology};
-use update_reads::{FilesAnswer, read_files};
+use update_reads::{FilesAnswer, PIECE, read_files};
 
 /// Reads the update files of names, at most 16, one after another into a catalogue that is empty yet. The first that is not
 /// read or has no reading decides, and no later one is opened.
@@ -32,7 +32,7 @@ pub fn read_updates<'a, F: Files>(
     ensures still { F.tells files.old → F.tells files.new }
     ensures later { F.faults files.old ≤ F.faults files.new }
 {
-    match read_files(alloc, catalog, names, files) {
+    match read_files(alloc, catalog, names, files, &mut [0; PIECE]) {
         Ok(catalog) => Ok(catalog),
         Err(FilesAnswer::Unread(file)) => Err(Refusal::Unread(&names[usize::from(file)])),
         Err(FilesAnswer::Refused(file, fault)) => {

@@ -19,7 +19,7 @@ use std::alloc::Global;
 use uc_bytes::{NoMemory, Text};
 use uc_catalog::Catalog;
 use uc_io::Files;
-use update_reads::{FilesAnswer, read_files};
+use update_reads::{FilesAnswer, PIECE, read_files};
 
 /// Boots with the files of these names, at most 16. Where memory runs out the parts are as they were.
 pub fn boot<F: Files>(
@@ -27,6 +27,7 @@ pub fn boot<F: Files>(
     parts: &mut Parts,
     names: &[Text],
     files: &mut F,
+    piece: &mut [u8; PIECE],
 ) -> Result<Acted, NoMemory>
     requires few { length names.now ≤ 16 }
     requires standing { Standing (setting_of parts.old) (state_of parts.old) }
@@ -38,7 +39,7 @@ pub fn boot<F: Files>(
     ensures later { F.faults files.old ≤ F.faults files.new }
 {
     if is_off(parts.power()) {
-        boot_off(alloc, parts, names, files)
+        boot_off(alloc, parts, names, files, piece)
     } else {
         Ok(Acted::only(CommandAnswer::Hot(HotAnswer::Booted)))
     }
@@ -56,6 +57,7 @@ fn boot_off<F: Files>(
     parts: &mut Parts,
     names: &[Text],
     files: &mut F,
+    piece: &mut [u8; PIECE],
 ) -> Result<Acted, NoMemory>
     requires few { length names.now ≤ 16 }
     requires standing { Standing (setting_of parts.old) (state_of parts.old) }
@@ -67,7 +69,7 @@ fn boot_off<F: Files>(
     ensures still { F.tells files.old → F.tells files.new }
     ensures later { F.faults files.old ≤ F.faults files.new }
 {
-    match read_files(alloc, Catalog::new(alloc), names, files) {
+    match read_files(alloc, Catalog::new(alloc), names, files, piece) {
         Ok(catalog) => Ok(boot_from(parts, &catalog)),
         Err(FilesAnswer::Unread(file)) => Ok(Acted::load(LoadAnswer::ReadFault(file))),
         Err(FilesAnswer::Refused(file, fault)) => Ok(Acted::load(LoadAnswer::BadFile(file, fault))),

@@ -20,7 +20,7 @@ ghost use Rattle.uc_session.specs.Playing.{Does};
 ghost use Rattle.uc_session.specs.Verdicts.{answered};
 
 use crate::playing::tell_load;
-use crate::rooms::LoadRoom;
+use crate::rooms::Room;
 use crate::setting_out::{Stop, set_out};
 use crate::verdicts::verdict;
 use command_laws::each_command_does_something;
@@ -112,7 +112,7 @@ fn put_end<S: Sink>(
 pub fn play_load<R: Rendezvous, F: Files, S: Sink>(
     alloc: Global,
     parts: &mut Parts,
-    room: &mut LoadRoom,
+    room: &mut Room,
     force: bool,
     names: &[Text],
     beats: &[Beat],
@@ -141,13 +141,25 @@ pub fn play_load<R: Rendezvous, F: Files, S: Sink>(
     the_verdict_is_the_first_that_holds();
     tables_end();
     let _topology = parts.topology();
-    let catalog = match set_out(alloc, parts, force, names, files, &mut room.tables) {
+    let catalog = match set_out(
+        alloc,
+        parts,
+        force,
+        names,
+        files,
+        &mut room.piece,
+        &mut room.tables,
+    ) {
         Ok(catalog) => catalog,
         Err(Stop::Answer(answer)) => return tell_load(out, names, answer),
         Err(Stop::NoMemory) => return Played::NoMemory,
     };
     parts.plan(room.tables.places.as_slice(), &mut room.tables.plan);
-    let LoadRoom { tables, outcome } = room;
+    let Room {
+        tables,
+        outcome,
+        ..
+    } = room;
     match offer_and_run(
         alloc,
         parts.topology(),

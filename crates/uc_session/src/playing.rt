@@ -20,7 +20,7 @@ use crate::acted::Acted;
 use crate::boots::boot;
 use crate::loads::play_load;
 use crate::plain::act;
-use crate::rooms::LoadRoom;
+use crate::rooms::Room;
 use command_laws::each_command_does_something;
 use ctl_core::Rendezvous;
 use script_text::Command;
@@ -30,6 +30,7 @@ use session_text::{LoadAnswer, Played};
 use std::alloc::Global;
 use uc_bytes::{NoMemory, Text};
 use uc_io::{Files, Sink};
+use update_reads::PIECE;
 
 /// Writes the threads that came up, and the answer of a command with these names of files.
 pub fn tell<S: Sink>(out: &mut S, names: &[Text], acted: &Acted) -> Played
@@ -69,6 +70,7 @@ fn play_boot<R: Rendezvous, F: Files, S: Sink>(
     names: &[Text],
     how: &R,
     files: &mut F,
+    piece: &mut [u8; PIECE],
     out: &mut S,
 ) -> Played
     requires few { length names.now ≤ 16 }
@@ -86,7 +88,7 @@ fn play_boot<R: Rendezvous, F: Files, S: Sink>(
 {
     each_command_does_something();
     let _topology = parts.topology();
-    match boot(alloc, parts, names, files) {
+    match boot(alloc, parts, names, files, piece) {
         Ok(acted) => tell(out, names, &acted),
         Err(NoMemory) => Played::NoMemory,
     }
@@ -113,7 +115,7 @@ fn play_plain<S: Sink>(parts: &mut Parts, command: &Command, out: &mut S) -> Pla
 pub fn play<R: Rendezvous, F: Files, S: Sink>(
     alloc: Global,
     parts: &mut Parts,
-    room: &mut LoadRoom,
+    room: &mut Room,
     command: &Command,
     number: u32,
     how: &mut R,
@@ -145,7 +147,15 @@ pub fn play<R: Rendezvous, F: Files, S: Sink>(
         Err(_) => return Played::WriteFault,
     }
     match command {
-        Command::Boot(names) => play_boot(alloc, parts, names.as_slice(), how, files, out),
+        Command::Boot(names) => play_boot(
+            alloc,
+            parts,
+            names.as_slice(),
+            how,
+            files,
+            &mut room.piece,
+            out,
+        ),
         Command::Load {
             force,
             names,

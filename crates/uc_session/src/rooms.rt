@@ -1,22 +1,28 @@
-//! What is lent to each load.
+//! What is lent to each command.
 
 use ctl_core::Outcome;
 use session_parts::LoadTables;
+use std::alloc::Global;
+use uc_bytes::NoMemory;
+use update_reads::PIECE;
 
-/// What is lent to each load, so that none has to make it. What it holds between two loads means nothing.
+/// What is lent to each command, so that none has to make it. What it holds between two commands means nothing.
 #[derive(Drop)]
-pub struct LoadRoom {
+pub struct Room {
+    /// For the pieces of files.
+    pub piece: Box<[u8; PIECE]>,
     pub tables: LoadTables,
     /// What the rendezvous came to.
     pub outcome: Outcome,
 }
 
-impl LoadRoom {
-    /// The room of no load.
-    pub fn new() -> LoadRoom {
-        LoadRoom {
+impl Room {
+    /// The room of no command. It answers want of memory and nothing else.
+    pub fn new(alloc: Global) -> Result<Room, NoMemory> {
+        Ok(Room {
+            piece: Box::new(alloc, [0; PIECE])?,
             tables: LoadTables::new(),
             outcome: Outcome::new(),
-        }
+        })
     }
 }

@@ -12,7 +12,7 @@ ghost use Rattle.session_laws.specs.Standing.{Standing, InRange};
 ghost use Rattle.session_parts.specs.Parts.{setting_of as parts_setting, state_of as parts_state};
 
 use crate::playing::play;
-use crate::rooms::LoadRoom;
+use crate::rooms::Room;
 use ctl_core::Rendezvous;
 use hw_machine::{Power, ThreadState};
 use patch_pool::{PatchId, PatchPool};
@@ -31,7 +31,7 @@ use uc_topology::Topology;
 #[derive(Drop)]
 pub struct Session {
     pub(crate) parts: Parts,
-    room: LoadRoom,
+    room: Room,
     ghost standing: { Standing (parts_setting parts) (parts_state parts) },
 }
 
@@ -55,7 +55,7 @@ impl Session {
         let parts = Parts::new(alloc, topology, pool, patience)?;
         Ok(Session {
             parts,
-            room: LoadRoom::new(),
+            room: Room::new(alloc)?,
         })
     }
 

@@ -13,7 +13,7 @@ use std::alloc::Global;
 use uc_bytes::Text;
 use uc_catalog::Catalog;
 use uc_io::Files;
-use update_reads::{FilesAnswer, read_files};
+use update_reads::{FilesAnswer, PIECE, read_files};
 
 /// Why a load does not come to its rendezvous.
 #[derive(Debug, Drop)]
@@ -30,6 +30,7 @@ pub fn set_out<F: Files>(
     force: bool,
     names: &[Text],
     files: &mut F,
+    piece: &mut [u8; PIECE],
     tables: &mut LoadTables,
 ) -> Result<Catalog, Stop>
     requires few { length names.now ≤ 16 }
@@ -49,7 +50,7 @@ pub fn set_out<F: Files>(
     if let Some(t) = parts.first_missing() {
         return Err(Stop::Answer(LoadAnswer::Busy(t)));
     }
-    let catalog = match read_files(alloc, Catalog::new(alloc), names, files) {
+    let catalog = match read_files(alloc, Catalog::new(alloc), names, files, piece) {
         Ok(catalog) => catalog,
         Err(FilesAnswer::Unread(file)) => return Err(Stop::Answer(LoadAnswer::ReadFault(file))),
         Err(FilesAnswer::Refused(file, fault)) => {

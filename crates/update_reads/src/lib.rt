@@ -7,4 +7,5 @@ mod pieces;
 mod reading;
 
 pub use answers::{FilesAnswer, UpdateAnswer};
+pub use pieces::PIECE;
 pub use reading::{read_files, read_update};

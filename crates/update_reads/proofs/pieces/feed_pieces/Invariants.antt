@@ -1,8 +1,8 @@
-use Rattle.std.proofs.Common.{◌≡◌, ℕ, ◌-◌, ◌≤◌, List}
+use Rattle.std.proofs.Common.{◌≡◌, ◌-◌, ◌≤◌}
 use Rattle.uc_bytes.specs.declared.TheConstants.{FILE_LIMIT}
 use Rattle.uc_catalog.specs.Contents.{with_coming, fed_of}
 use Rattle.update_reads.specs.Fed.{HasTaken}
-use Rattle.update_reads.proofs.pieces.feed_rest.Given as goal
+use Rattle.update_reads.proofs.pieces.feed_pieces.Given as goal
 
 abbrev pub invariant-pieces : goal.invariant-pieces
 invariant-pieces g l = record {
@@ -12,10 +12,7 @@ invariant-pieces g l = record {
   same : g.F.Files.holds l.files ≡ g.F.Files.holds l.initial.files;
   still : g.F.Pieces.tells l.initial.files → g.F.Pieces.tells l.files;
   count : g.F.Pieces.faults l.files ≡ g.F.Pieces.faults l.initial.files;
-  taken : (held : List ℕ)
-      → HasTaken (g.F.Pieces.tells l.initial.files) held (g.F.Pieces.left l.initial.files) l.fn.before l.fn.settled
-      l.initial.catalog
-      → HasTaken (g.F.Pieces.tells l.initial.files) held (g.F.Pieces.left l.files) l.came l.fault l.catalog;
+  taken : HasTaken (g.F.Pieces.tells l.initial.files) (g.F.Pieces.left l.initial.files) (g.F.Pieces.left l.files) l.came l.fault l.catalog;
 }
 
 abbrev pub decreases-pieces : goal.decreases-pieces
