@@ -23,7 +23,7 @@ mod stands;
 pub use cores::Core;
 pub use ctl_words::Plan;
 pub use laws::{a_listed_run_is_played, enough_rounds_finish};
-pub use outcomes::{Outcome, copy_table};
+pub use outcomes::Outcome;
 pub use ranges::are_in_range;
 pub use rendezvous_steps::{Beat, End, Event, Item, ThreadResult, What};
 pub use runs::{Rendezvous, RunAnswer};

@@ -17,8 +17,6 @@ pub struct Outcome {
 }
 
 impl Outcome {
-    ghost use Rattle.ctl_core.specs.Outcomes.{outcome_of};
-
     /// The outcome of a rendezvous of no thread, to be filled.
     pub fn new() -> Outcome
         ensures decide { result.decide ≡ 0 }
@@ -30,24 +28,5 @@ impl Outcome {
             ends: ArrayVec::new(),
             revs: ArrayVec::new(),
         }
-    }
-
-    /// Becomes the same as another outcome. It takes no memory.
-    pub fn copy_from(&mut self, other: &Outcome)
-        ensures { outcome_of self.new ≡ outcome_of other.now }
-    {
-        self.decide = other.decide;
-        copy_table(&other.ends, &mut self.ends);
-        copy_table(&other.revs, &mut self.revs);
-    }
-}
-
-/// Gives a table the entries of another. What it held is let go.
-pub fn copy_table<T: Copy + Default>(table: &ArrayVec<T, 256>, copy: &mut ArrayVec<T, 256>)
-    ensures { copy.new.items ≡ table.now.items }
-{
-    copy.clear();
-    for entry in table.as_slice() {
-        copy.push(*entry);
     }
 }

@@ -16,10 +16,9 @@ use Rattle.play_laws.proofs.Unlisted.{ends_are_unlisted}
 use Rattle.ctl_words.specs.declared.plans.Plan.{Plan as Tables}
 use Rattle.ctl_words.specs.Plans.{plan_of, IsSound}
 use Rattle.ctl_words.proofs.TablesEnd.{padded}
-use Rattle.ctl_core.specs.declared.outcomes.Outcome.{Outcome}
-use Rattle.ctl_core.specs.Outcomes.{outcome_of}
 use Rattle.ctl_core.proofs.Shown.{decide_shown}
 use Rattle.atomic_table.specs.Table.{Me, Final, Seen}
+use Rattle.ctl_table.specs.declared.exact_outcomes.ExactOutcome.{ExactOutcome}
 use Rattle.ctl_table.specs.declared.bays.Bay.{Bay}
 use Rattle.ctl_table.specs.declared.posts.Post.{Post}
 use Rattle.ctl_table.specs.Posts.{standing_of, IsOf}
@@ -30,6 +29,7 @@ use Rattle.ctl_table.specs.Words.{words_of, is_first_or_offer}
 use Rattle.ctl_table.specs.Standings.{spent_count}
 use Rattle.ctl_table.specs.Holds.{Desk, Holds, HasLate}
 use Rattle.ctl_table.specs.Ended.{ClosedShows}
+use Rattle.ctl_table.specs.Exact.{exact_outcome_of}
 use Rattle.ctl_table.specs.Lasts.{OutcomeReads}
 use Rattle.ctl_table.proofs.Sitting.{found_there, one_view, count_below, count_two, same_or_not}
 
@@ -99,18 +99,18 @@ module _ (p : Tables) (sound : IsSound p) (s : Desk) (held : Holds p s) (id : �
   nobody_late in_time had =
       absurd (false≢true (sym in_time ∙ (ap (λ (x : Standing). x.late) (sym (is_mine had.id had.standing had.sits)) ∙ had.is_late)))
 
-  pub closes : (outcome : Outcome) → OutcomeReads (plan_of p) (words_of (plan_of p) s.words) outcome → ClosedShows (plan_of p) (outcome_of outcome) v.late
+  pub closes : (outcome : ExactOutcome) → OutcomeReads (plan_of p) (words_of (plan_of p) s.words) outcome → ClosedShows (plan_of p) (exact_outcome_of outcome) v.late
   closes outcome reads =
       let plan = plan_of p in
       let moment = last_moment p s held in
-      let shows : OutcomeShows plan (outcome_of outcome) (shown_by plan moment) =
+      let shows : OutcomeShows plan (exact_outcome_of outcome) (shown_by plan moment) =
       record { decide = reads.decide ∙ decide_shown _; ends = reads.ends; revs = reads.revs } in
       record {
         moment = moment;
         ruled = held.ruled;
         safe = safe_at p s held sound;
         shows = shows;
-        unlisted = ends_are_unlisted plan moment (outcome_of outcome) v.late sound.sound (padded p sound) held.ruled all_last
+        unlisted = ends_are_unlisted plan moment (exact_outcome_of outcome) v.late sound.sound (padded p sound) held.ruled all_last
             (λ in_time. lt_of_not-le (λ two. nobody_late in_time (held.drop_is_late (subst (λ (n : ℕ). 2 ≤ n) reads.decide two))))
             (λ in_time u halted. nobody_late in_time (held.halt_is_late u halted))
             shows;
@@ -132,7 +132,7 @@ module _ (bay : Bay) (post : Post) (row : List ℕ) (slots : List (Unit {0})) (o
       subst (λ (r : List ℕ). IsTrue (is_first_or_offer (plan_of bay.plan.value) g (words_of (plan_of bay.plan.value) r (Rev g)))) row_is
       (revisions_known bay.plan.value at_end holds_at_end bay.sound g)
 
-  pub closed_at_end : post.thread ≡ 0 → post.joined + 1 ≡ bay.plan.value.threads → IsTrue (is_last post.local.phase) → (outcome : Outcome) → OutcomeReads (plan_of bay.plan.value) (words_of (plan_of bay.plan.value) row) outcome → ClosedShows (plan_of bay.plan.value) (outcome_of outcome) post.late
+  pub closed_at_end : post.thread ≡ 0 → post.joined + 1 ≡ bay.plan.value.threads → IsTrue (is_last post.local.phase) → (outcome : ExactOutcome) → OutcomeReads (plan_of bay.plan.value) (words_of (plan_of bay.plan.value) row) outcome → ClosedShows (plan_of bay.plan.value) (exact_outcome_of outcome) post.late
   closed_at_end first all ended outcome reads =
       closes bay.plan.value bay.sound at_end holds_at_end post.seat.id (standing_of bay.plan.value post) (final.1.1 ∙ ap (λ (m : Me (Unit {0}) View). some m.0) ours.sits) first all ended outcome
       (subst (λ (r : List ℕ). OutcomeReads (plan_of bay.plan.value) (words_of (plan_of bay.plan.value) r) outcome) (sym row_is) reads)

@@ -2,16 +2,15 @@
 use Rattle.std.specs.Prelude.{◌≡◌, Bool}
 use Rattle.rendezvous_steps.specs.Plan.{Plan}
 use Rattle.rendezvous_model.specs.Outcome.{Outcome}
-use Rattle.ctl_words.specs.Plans.{plan_of}
-use Rattle.ctl_core.specs.Outcomes.{outcome_of}
 use Rattle.ctl_table.specs.declared.closed.Closed.{Closed}
 use Rattle.ctl_table.specs.Ended.{ClosedShows}
+use Rattle.ctl_table.specs.Exact.{exact_plan_of, exact_outcome_of}
 
 abbrev pub closed_plan : Closed → Plan
-closed_plan closed = plan_of closed.plan.value
+closed_plan closed = exact_plan_of closed.plan
 
 abbrev pub closed_outcome : Closed → Outcome
-closed_outcome closed = outcome_of closed.outcome
+closed_outcome closed = exact_outcome_of closed.outcome
 
 abbrev pub was_late : Closed → Bool
 was_late closed = closed.late

@@ -7,8 +7,8 @@ use Rattle.rendezvous_steps.specs.declared.operations.Word.TheVariants.{Decide, 
 use Rattle.rendezvous_steps.specs.declared.ends.End.{End}
 use Rattle.rendezvous_steps.specs.Plan.{Plan, threads_from}
 use Rattle.ctl_words.specs.Plans.{plan_of}
-use Rattle.ctl_core.specs.declared.outcomes.Outcome.{Outcome}
 use Rattle.ctl_core.specs.Moments.{end_in}
+use Rattle.ctl_table.specs.declared.exact_outcomes.ExactOutcome.{ExactOutcome}
 use Rattle.ctl_table.specs.declared.last.Last.{Last}
 use Rattle.ctl_table.specs.Words.{words_of}
 
@@ -26,7 +26,7 @@ abbrev pub revisions_read : Plan → (Word → ℕ) → List ℕ
 revisions_read plan words = map (λ g. words (Rev g)) (range_with_len 0 plan.groups)
 
 -- the outcome is what these words hold of the decision, of each thread and of each group
-pub record OutcomeReads (plan : Plan) (words : Word → ℕ) (outcome : Outcome) : Type 0 where
+pub record OutcomeReads (plan : Plan) (words : Word → ℕ) (outcome : ExactOutcome) : Type 0 where
   pub decide : outcome.decide ≡ words Decide
-  pub ends : outcome.ends.items ≡ ends_read plan words
-  pub revs : outcome.revs.items ≡ revisions_read plan words
+  pub ends : outcome.ends.entries.items ≡ ends_read plan words
+  pub revs : outcome.revs.entries.items ≡ revisions_read plan words

@@ -3,6 +3,7 @@ pub mod Standings
 pub mod Holds
 pub mod Openings
 pub mod Copies
+pub mod Exact
 pub mod Posts
 pub mod Seen
 pub mod Ended

@@ -3,9 +3,12 @@
 ghost use Rattle.std.specs.Prelude.{◌≡◌};
 ghost use Rattle.ctl_words.specs.Plans.{plan_of, IsSound};
 ghost use Rattle.ctl_words.specs.Places.{word_count};
+ghost use Rattle.ctl_table.specs.Exact.{exact_plan_of, HasRoom};
 
 use crate::closed::Closed;
 use crate::copies::copied;
+use crate::exact_outcomes::ExactOutcome;
+use crate::exact_plans::ExactPlan;
 use crate::last::Last;
 use crate::openings::opening_words;
 use crate::posts::Post;
@@ -16,16 +19,21 @@ use ctl_words::Plan;
 use std::alloc::Global;
 use uc_bytes::NoMemory;
 
-/// The control words of one plan. Posts step on them through a `&Bay`, each from whatever thread holds it. The plan is in a
-/// box, since each of its tables has 256 places: it is copied once, and then no more moved.
+/// The control words of one plan. Posts step on them through a `&Bay`, each from whatever thread holds it. The plan is
+/// in a box, since each of its tables has 256 places: it is copied once, and let go when the bay is closed. What is kept
+/// then, `exact_plan` and `outcome`, has its memory from the beginning.
 #[derive(Drop)]
 pub struct Bay {
     pub(crate) plan: Box<Plan>,
     pub(crate) table: Table<(), View, Plan, Rules, Global>,
+    pub(crate) exact_plan: ExactPlan,
+    pub(crate) outcome: ExactOutcome,
     ghost sound: { IsSound plan.value },
     ghost keyed: { table.shared.key ≡ plan.value },
     ghost no_slots: { table.shared.table_id.slots ≡ 0 },
     ghost sized: { table.shared.table_id.words ≡ word_count (plan_of plan.value) },
+    ghost same_plan: { exact_plan_of exact_plan ≡ plan_of plan.value },
+    ghost room: { HasRoom (plan_of plan.value) outcome },
 }
 
 impl Bay {
@@ -45,6 +53,8 @@ impl Bay {
         ensures opens { IfOk result (λ made. Opens (plan_of plan.now) 0 made.1) }
     {
         let words = opening_words(alloc, plan)?;
+        let exact_plan = ExactPlan::of(alloc, plan)?;
+        let outcome = ExactOutcome::with_room(alloc, plan)?;
         let plan = Box::new(alloc, copied(plan))?;
         let (table, seat) = Table::of_words(alloc, &words, &*plan)?;
         let post = Post {
@@ -55,7 +65,13 @@ impl Bay {
             joined: 0,
             late: false,
         };
-        Ok((Bay { plan, table }, post))
+        let bay = Bay {
+            plan,
+            table,
+            exact_plan,
+            outcome,
+        };
+        Ok((bay, post))
     }
 
     /// The post of the next thread. It takes no memory.
@@ -104,17 +120,22 @@ impl Bay {
         requires all { joined_by post + 1 ≡ (plan_in self).threads }
         ensures { Shows (plan_in self) (is_late post) result }
     {
-        let Bay { plan, table } = self;
+        let Bay {
+            plan,
+            table,
+            exact_plan,
+            mut outcome,
+        } = self;
         let Post { seat, late, .. } = post;
         let words = table.close_with(seat);
-        let outcome = Last {
+        let last = Last {
             plan: &plan,
             words: &words,
-        }
-        .outcome();
+        };
+        last.fill(&mut outcome);
         words.free();
         Closed {
-            plan,
+            plan: exact_plan,
             outcome,
             late,
         }

@@ -1,9 +1,9 @@
 //! A plan once more.
 
+ghost use Rattle.std.specs.Prelude.{◌≡◌};
 ghost use Rattle.ctl_table.specs.Copies.{IsCopy};
 
 use arrayvec::ArrayVec;
-use ctl_core::copy_table;
 use ctl_words::Plan;
 
 /// The same plan once more. It takes no memory. Its tables are filled where they stand, since each has 256 places.
@@ -27,4 +27,14 @@ pub fn copied(plan: &Plan) -> Plan
     copy_table(&plan.refuse, &mut copy.refuse);
     copy_table(&plan.rev0, &mut copy.rev0);
     copy
+}
+
+/// Gives a table the entries of another. What it held is let go.
+fn copy_table<T: Copy + Default>(table: &ArrayVec<T, 256>, copy: &mut ArrayVec<T, 256>)
+    ensures { copy.new.items ≡ table.now.items }
+{
+    copy.clear();
+    for entry in table.as_slice() {
+        copy.push(*entry);
+    }
 }

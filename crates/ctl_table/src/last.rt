@@ -8,9 +8,9 @@ ghost use Rattle.ctl_words.specs.Places.{word_count, is_word};
 ghost use Rattle.ctl_core.specs.Moments.{end_in};
 ghost use Rattle.ctl_table.specs.Words.{words_of, RevisionsAre};
 
-use arrayvec::ArrayVec;
+use crate::exact_outcomes::ExactOutcome;
+use crate::exact_tables::ExactTable;
 use atomic_table::Closed as Emptied;
-use ctl_core::Outcome;
 use ctl_words::Plan;
 use rendezvous_steps::{End, Kind, ThreadResult, Word};
 use std::alloc::Global;
@@ -27,17 +27,18 @@ pub struct Last<'a> {
 }
 
 impl Last<'_> {
+    ghost use Rattle.std.specs.Prelude.{◌≤◌, vec_capacity};
+    ghost use Rattle.ctl_table.specs.Exact.{HasRoom};
     ghost use Rattle.ctl_table.specs.Lasts.{plan_at, words_at, ends_read, revisions_read, OutcomeReads};
 
-    /// The outcome that the words show. Its lists are filled where they stand, since each has 256 places.
-    pub fn outcome(&self) -> Outcome
-        ensures { OutcomeReads (plan_at self.now) (words_at self.now) result }
+    /// Makes an outcome that which the words show. It takes no memory.
+    pub fn fill(&self, outcome: &mut ExactOutcome)
+        requires { HasRoom (plan_at self.now) outcome.old }
+        ensures { OutcomeReads (plan_at self.now) (words_at self.now) outcome.new }
     {
-        let mut outcome = Outcome::new();
         outcome.decide = self.word(Word::Decide);
         self.fill_ends(&mut outcome.ends);
         self.fill_revisions(&mut outcome.revs);
-        outcome
     }
 
     fn word(&self, word: Word) -> u64
@@ -47,9 +48,10 @@ impl Last<'_> {
         self.words.word(self.plan.place(word) as usize)
     }
 
-    /// Gives a list the end of each thread. What it held is let go.
-    fn fill_ends(&self, ends: &mut ArrayVec<End, 256>)
-        ensures { ends.new.items ≡ ends_read (plan_at self.now) (words_at self.now) }
+    /// Gives a table the end of each thread. What it held is let go.
+    fn fill_ends(&self, ends: &mut ExactTable<End>)
+        requires { (plan_at self.now).threads ≤ vec_capacity ends.old.entries }
+        ensures { ends.new.entries.items ≡ ends_read (plan_at self.now) (words_at self.now) }
     {
         ends.clear();
         for thread in 0..self.plan.threads {
@@ -75,9 +77,10 @@ impl Last<'_> {
         }
     }
 
-    /// Gives a list the revision of each group. What it held is let go.
-    fn fill_revisions(&self, revisions: &mut ArrayVec<u32, 256>)
-        ensures { revisions.new.items ≡ revisions_read (plan_at self.now) (words_at self.now) }
+    /// Gives a table the revision of each group. What it held is let go.
+    fn fill_revisions(&self, revisions: &mut ExactTable<u32>)
+        requires { (plan_at self.now).groups ≤ vec_capacity revisions.old.entries }
+        ensures { revisions.new.entries.items ≡ revisions_read (plan_at self.now) (words_at self.now) }
     {
         revisions.clear();
         for group in 0..self.plan.groups() {

@@ -12,11 +12,16 @@
 //! - `posts`: a post. `standings`: what the table knows of one, which has no bytes.
 //! - `last`: the words of a bay that is closed, read into an outcome. `closed`: that outcome with its plan.
 //! - `openings`: what a bay begins with. `copies`: a plan once more.
+//! - `exact_tables`, `exact_plans`, `exact_outcomes`: what is kept of a bay that is closed, in tables of exact length.
+//!   Their memory is taken when the bay is made.
 #![tactic(auto)]
 
 mod bays;
 mod closed;
 mod copies;
+mod exact_outcomes;
+mod exact_plans;
+mod exact_tables;
 mod last;
 mod laws;
 mod openings;

@@ -4,7 +4,7 @@ ghost use Rattle.std.specs.Prelude.{◌≡◌};
 ghost use Rattle.rendezvous_steps.specs.StepTable.{is_last};
 ghost use Rattle.ctl_table.specs.Posts.{plan_in, phase_of, IsOf};
 
-use crate::{Bay, Closed, End, Phase, Plan, Post, Seen, ThreadResult, What};
+use crate::{Bay, Closed, End, Outcome, Phase, Plan, Post, Seen, ThreadResult, What};
 use arrayvec::ArrayVec;
 use rendezvous_steps::Kind;
 use std::process::Abort;
@@ -61,6 +61,12 @@ fn close(rt: &impl Abort, bay: Bay, mut zero: Post, one: Post) -> Closed
     bay.close(zero)
 }
 
+fn outcome_of(closed: &Closed) -> Outcome {
+    let mut outcome = Outcome::new();
+    closed.fill_outcome(&mut outcome);
+    outcome
+}
+
 /// Steps the posts in turn, and compares what each step answers.
 fn walk(rt: &impl Abort, bay: &Bay, zero: &mut Post, one: &mut Post, turns: &[(u16, Seen)])
     requires { IsOf bay.now zero.old × IsOf bay.now one.old }
@@ -106,7 +112,7 @@ fn table_go(rt: HostRuntime) -> Result<(), Fail> {
     let mut one = bay.split(&mut zero);
     walk(&rt, &bay, &mut zero, &mut one, &GO);
     let closed = close(&rt, bay, zero, one);
-    let outcome = closed.outcome();
+    let outcome = outcome_of(&closed);
     assert!(rt; outcome.decide == 1 && !closed.late());
     assert!(rt;
         outcome.ends.as_slice()
@@ -117,7 +123,10 @@ fn table_go(rt: HostRuntime) -> Result<(), Fail> {
             .as_slice()
     );
     assert!(rt; outcome.revs.as_slice() == [NEW].as_slice());
-    assert!(rt; closed.plan().threads == 2);
+    let mut again = pair(0);
+    closed.fill_plan(&mut again);
+    assert!(rt; again.threads == 2 && again.patience == u32::MAX);
+    assert!(rt; again.offer.as_slice() == [Some(NEW)].as_slice());
     Ok(())
 }
 
@@ -177,7 +186,7 @@ fn table_timeout(rt: HostRuntime) -> Result<(), Fail> {
         { come_late(&bay, one, &dropped) },
     );
     let closed = close(&rt, bay, zero, one);
-    let outcome = closed.outcome();
+    let outcome = outcome_of(&closed);
     assert!(rt; outcome.decide == 3 && closed.late());
     assert!(rt; outcome.ends.as_slice() == [TIMEOUT, TIMEOUT].as_slice());
     assert!(rt; outcome.revs.as_slice() == [OLD].as_slice());

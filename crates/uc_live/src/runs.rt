@@ -56,7 +56,7 @@ impl<G: Gate + Sync, R: Threads + Wait> LiveRun<'_, G, R> {
         let (bay, zero) = Bay::new(alloc, plan)?;
         let zero = work_all(&self.rt, &bay, plan, self.gate, zero);
         let closed = bay.close(zero);
-        outcome.copy_from(closed.outcome());
+        closed.fill_outcome(outcome);
         let Ok(()) = self.kept.push(closed) else {
             unreachable!()
         };

@@ -1,5 +1,5 @@
 use Rattle.std.proofs.Common.{◌≡◌, take}
-use Rattle.ctl_core.proofs.outcomes.copy_table.Given as goal
+use Rattle.ctl_table.proofs.copies.copy_table.Given as goal
 
 -- the entries so far
 abbrev pub invariant-loop-entry : goal.invariant-loop-entry
