@@ -100,8 +100,8 @@ def lists():
         line = f"0 at 36 len {length} rev 0x0a20102b id 0x{shown} family 0x000000{family}\n"
         text = f"file 0 y amd 1\n{line}" + (f"  sig 0x{sig:08x}\n" if serves else "")
         yield ["list", "y"], {"y": container(sig, number, number, length)}, 0, text, text
-    text = "file 0 y amd 1\n0 at 4116 len 64 rev 0x0a20102b id 0x0000a210 family 0x00000019\n  sig 0x00a20f10\n"
-    yield ["list", "y"], {"y": container(0x00A20F10, 0xA210, 0xA210, table=4096)}, 0, text, text
+    text = "file 0 y amd 1\n0 at 65556 len 64 rev 0x0a20102b id 0x0000a210 family 0x00000019\n  sig 0x00a20f10\n"
+    yield ["list", "y"], {"y": container(0x00A20F10, 0xA210, 0xA210, table=65536)}, 0, text, text
     line = "11 at 704 len 64 rev 0x000000f0 date 2023-07-11 sig 0x000906ea flags 0x00000002\n"
     yield ["list", "y"], {"y": 12 * update()}, 0, "file 0 y intel 12\n", line
     yield ["list", 255 * "n"], {}, 4, "error read ", f"error read {255 * 'n'}\n"

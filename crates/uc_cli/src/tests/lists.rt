@@ -229,8 +229,12 @@ fn want_of_memory_has_its_line_and_each_status_its_number(rt: HostRuntime) -> Re
 #[test]
 fn a_read_that_fails_behind_a_fault_is_named(rt: HostRuntime) -> Result<(), Fail> {
     let alloc = rt.alloc();
-    let mut long = update(alloc, 0, 1, 2_048)?;
-    long.extend_from_slice(update(alloc, 0, 1, 2_048)?.as_slice())?;
+    // The first piece of 65,536 bytes has no fault.
+    let sound = update(alloc, 0, 1, 2_048)?;
+    let mut long = Vec::new(alloc);
+    for _ in 0..32 {
+        long.extend_from_slice(sound.as_slice())?;
+    }
     long.extend_from_slice(update(alloc, 0, 2, 2_048)?.as_slice())?;
     let table = [(update(alloc, 0, 2, 2_048)?, 3), (long, 4)];
     for (bytes, call) in &table {

@@ -49,20 +49,20 @@ fn read_fails(alloc: Global, failing: u32, end: &str) -> Result<(Status, bool), 
 #[test]
 fn a_session_ends_with_the_first_file_that_is_not_read(rt: HostRuntime) -> Result<(), Fail> {
     let alloc = rt.alloc();
-    // The file of a load takes five calls: it is opened, three pieces are taken, and its end is found.
+    // The file of a load takes four calls: it is opened, two pieces are taken, and its end is found.
     let ends = [
         (1, "error read t\n"),
         (2, "error read s\n"),
         (3, "command 2 load\nanswer read-fault r.bin\n"),
-        (7, "command 2 load\nanswer read-fault r.bin\n"),
-        (8, "command 3 load\nanswer read-fault r.bin\n"),
-        (12, "command 3 load\nanswer read-fault r.bin\n"),
+        (6, "command 2 load\nanswer read-fault r.bin\n"),
+        (7, "command 3 load\nanswer read-fault r.bin\n"),
+        (10, "command 3 load\nanswer read-fault r.bin\n"),
     ];
     for (call, end) in &ends {
         let found = read_fails(alloc, *call, end)?;
         assert_eq!(rt; found, (Status::ReadFault, true), "{call}");
     }
-    let found = read_fails(alloc, 13, "answer not-found\n")?;
+    let found = read_fails(alloc, 11, "answer not-found\n")?;
     assert_eq!(rt; found, (Status::Short, true));
     Ok(())
 }
