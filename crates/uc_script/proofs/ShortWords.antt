@@ -1,10 +1,10 @@
 -- Words that are a byte and one to three digits.
-use Rattle.std.proofs.Common.{◌≡◌, ℕ, ◌+◌, ◌-◌, ◌*◌, ◌<◌, ◌≤◌, ◌^◌, Bool, true, false, ◌&&◌, List, [], ◌∷◌, ◌++◌, length, take, drop, filter, get_or, Some, None, refl, sym, ap, ◌∙◌, subst, arith, nat_eq, nat_lt, not, codes, cond, append-nil}
+use Rattle.std.proofs.Common.{◌≡◌, ℕ, ◌+◌, ◌-◌, ◌*◌, ◌<◌, ◌≤◌, ◌^◌, Bool, true, false, ◌&&◌, List, [], ◌∷◌, ◌++◌, length, take, drop, filter, get_or, Some, None, refl, sym, ap, ◌∙◌, arith, nat_eq, nat_lt, nat_le, not, codes, cond, append-nil}
 use Rattle.std.specs.Char.{digit_value, is_digit}
 use Rattle.std.specs.List.{All, onto_first, slice_split, starts_with}
 use Rattle.std.specs.Prelude.{◌==◌}
 use Rattle.std.specs.Str.{bytes_eq}
-use Rattle.std.proofs.lemmas.Bool.{lt-ltb, cond-true, and_from}
+use Rattle.std.proofs.lemmas.Bool.{lt-ltb, cond-true, and_from, and_right}
 use Rattle.std.proofs.lemmas.Bool.Decides.{nat_tests}
 use Rattle.std.proofs.lemmas.List.{take_all, length-drop}
 use Rattle.std.proofs.lemmas.List.Elements.{All-cons, All-nil}
@@ -14,8 +14,7 @@ use Rattle.uc_text.specs.Lines.{is_blank, has_bytes, words_of}
 use Rattle.uc_text.specs.Numbers.{are_digits, below, number_of, place_value, spelled, spelled_in}
 use Rattle.rendezvous_steps.specs.declared.ends.Beat.{Beat}
 use Rattle.script_text.specs.declared.forms.Limits.{Limits}
-use Rattle.script_text.specs.declared.forms.Form.TheVariants.{End}
-use Rattle.script_text.specs.Forms.{has_form}
+use Rattle.script_text.specs.Forms.{have_form, is_number, takes_the_rest}
 use Rattle.uc_script.proofs.Words.{end_alone}
 use Rattle.uc_script.proofs.FirstLines.{IsPlain, first_line-cons, after_line-cons, first_line-append, after_line-append, first_line-feed, after_line-feed}
 use Rattle.uc_script.specs.FirstLine.{first_line, after_line, left_words, left_text}
@@ -166,30 +165,50 @@ short_three text left left_2 left_3 m n k is_last begun two three ends marks =
     short text (get_or text 0 0) (get_or text 1 0 ∷ get_or text 2 0 ∷ get_or left 0 0 ∷ []) (get_or left_2 0 0) left_3 is_last ((m * 10 + n) * 10 + k) is others ends
     (number_of_three (get_or text 1 0) m begun.low begun.high begun.is (get_or text 2 0) n two.low two.high two.is (get_or left 0 0) k three.low three.high three.is) marks
 
--- ---- the form that ends a load
+-- ---- forms that begin with a small letter
 
 -- the first part of a text that begins with no blank begins with its first byte
 first_part : (byte : ℕ) (parts : List (List ℕ)) → 1 ≤ length parts → filter has_bytes (onto_first byte parts) ≡ (byte ∷ get_or parts 0 []) ∷ filter has_bytes (drop 1 parts)
 first_part byte [] some = absurd (omega arith)
 first_part byte (part ∷ parts) some = refl
 
+-- the first word of a text that begins with no blank begins with its first byte
+first_word : (byte : ℕ) (text : List ℕ) → is_blank byte ≡ false → (word : List ℕ) × (rest : List (List ℕ)) × (words_of (byte ∷ text) ≡ (byte ∷ word) ∷ rest)
+unfolding words_of
+first_word byte text plain =
+    let parts : List (List ℕ) = slice_split is_blank text in
+    (get_or parts 0 [], filter has_bytes (drop 1 parts), ap (filter has_bytes) (slice_split-cons_no is_blank byte text plain) ∙ first_part byte parts (omega (arith, length-slice_split is_blank text)))
+
+module _ (letter : ℕ) (low : 97 ≤ letter) (high : letter ≤ 122) where
+  -- a word of a form that begins with a small letter stands for itself
+  stands_for_itself : (word : List ℕ) → (takes_the_rest (letter ∷ word) ≡ false) × (is_number (letter ∷ word) ≡ false)
+  stands_for_itself word =
+      let no_names : nat_eq letter 78 ≡ false = grind (arith, nat_tests) in
+      let no_bracket : nat_eq letter 91 ≡ false = grind (arith, nat_tests) in
+      let no_beats : nat_eq letter 66 ≡ false = grind (arith, nat_tests) in
+      let no_capital : nat_le letter 90 ≡ false = grind (arith, nat_tests) in
+      (rw no_names (rw no_bracket (rw no_beats refl)), and_right (nat_le 65 letter) (nat_le letter 90) no_capital)
+
+  -- a text that begins with another byte, which is no blank, is not of such a form
+  begins_apart : (form : List ℕ) (byte : ℕ) (text : List ℕ) → is_blank byte ≡ false → (byte ≡ letter → ⊥) → have_form (words_of (letter ∷ form)) (words_of (byte ∷ text)) ≡ false
+  begins_apart form byte text plain other =
+      let own = first_word letter form (grind (arith, nat_tests)) in
+      let first = first_word byte text plain in
+      let differ : nat_eq byte letter ≡ false = grind (arith, nat_tests, other) in
+      let itself = stands_for_itself own.0 in
+      ap (λ (parts : List (List ℕ)). have_form parts (words_of (byte ∷ text))) own.2
+      ∙ ap (have_form ((letter ∷ own.0) ∷ own.1)) first.2
+      ∙ rw itself.0 (rw itself.1 (rw differ refl))
+
+-- the same of texts that are not empty
+pub begin_apart : (form text : List ℕ) → 1 ≤ length form → 1 ≤ length text → 97 ≤ get_or form 0 0 → get_or form 0 0 ≤ 122 → is_blank (get_or text 0 0) ≡ false → (get_or text 0 0 ≡ get_or form 0 0 → ⊥) → have_form (words_of form) (words_of text) ≡ false
+begin_apart [] text some_form some low high plain other = absurd (omega arith)
+begin_apart (letter ∷ form) [] some_form some low high plain other = absurd (omega arith)
+begin_apart (letter ∷ form) (byte ∷ text) some_form some low high plain other = begins_apart letter low high form byte text plain other
+
+-- a word that begins with another byte than `e` is not `end`
 no_end_word : (byte : ℕ) (bytes : List ℕ) → nat_eq byte 101 ≡ false → bytes_eq (byte ∷ bytes) (codes "end") ≡ false
 no_end_word byte bytes other = rw other refl
-
--- a text that begins with another byte than `e`, which is no blank, is not that form
-pub begins_no_end : (byte : ℕ) (text : List ℕ) → is_blank byte ≡ false → nat_eq byte 101 ≡ false → has_form (words_of (byte ∷ text)) End ≡ false
-unfolding words_of
-begins_no_end byte text plain other =
-    let parts : List (List ℕ) = slice_split is_blank text in
-    let split : words_of (byte ∷ text) ≡ (byte ∷ get_or parts 0 []) ∷ filter has_bytes (drop 1 parts) =
-    ap (filter has_bytes) (slice_split-cons_no is_blank byte text plain) ∙ first_part byte parts (omega (arith, length-slice_split is_blank text)) in
-    end_alone (words_of (byte ∷ text)) (filter has_bytes (drop 1 parts)) (byte ∷ get_or parts 0 []) split
-    ∙ ap (λ (b : Bool). b && (length (filter has_bytes (drop 1 parts)) == 0)) (no_end_word byte (get_or parts 0 []) other)
-
--- the same of a text that is not empty
-pub no_end_begins : (text : List ℕ) → 1 ≤ length text → is_blank (get_or text 0 0) ≡ false → nat_eq (get_or text 0 0) 101 ≡ false → has_form (words_of text) End ≡ false
-no_end_begins text some plain other =
-    subst (λ (t : List ℕ). has_form (words_of t) End ≡ false) (sym (first_is text some)) (begins_no_end (get_or text 0 0) (drop 1 text) plain other)
 
 -- a text whose first word states a beat has a line first that counts and ends no load
 pub line_of_beats : (limits : Limits) (text : List ℕ) (beat : Beat) (rest : List ℕ) (is_last : Bool) → IsFirstBeat limits text beat rest is_last → IsLineOfBeats text

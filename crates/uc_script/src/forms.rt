@@ -28,6 +28,9 @@ pub fn form_of(place: Place, line: &[u8]) -> Option<Form>
 fn has_form(form: &[u8], line: &[u8]) -> bool
     ensures { result ≡ have_form (words_of form.now) (words_of line.now) }
 {
+    if begins_otherwise(form, line) {
+        return false;
+    }
     let mut words = Words::new(line);
     for part in Words::new(form) {
         if takes_the_rest(part) {
@@ -48,7 +51,7 @@ fn has_form(form: &[u8], line: &[u8]) -> bool
 pub fn is_end(line: &[u8]) -> bool
     ensures { result ≡ has_form (words_of line.now) End }
 {
-    if begins_otherwise(line) {
+    if begins_otherwise(b"end", line) {
         return false;
     }
     let mut words = Words::new(line);
@@ -61,14 +64,14 @@ pub fn is_end(line: &[u8]) -> bool
     words.next().is_none()
 }
 
-/// Whether a line begins with a word of another first byte than that of `end`.
+/// Whether a line begins with a word of another first byte than the small letter that begins a form.
 #[inline(always)]
-fn begins_otherwise(line: &[u8]) -> bool
-    ensures { IsTrue result → has_form (words_of line.now) End ≡ false }
+fn begins_otherwise(form: &[u8], line: &[u8]) -> bool
+    ensures { IsTrue result → have_form (words_of form.now) (words_of line.now) ≡ false }
 {
-    match line {
-        [first, ..] => *first != b'e' && !is_blank(*first),
-        [] => false,
+    match (form, line) {
+        ([letter @ b'a'..=b'z', ..], [first, ..]) => first != letter && !is_blank(*first),
+        _ => false,
     }
 }
 
