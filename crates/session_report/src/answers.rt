@@ -1,5 +1,5 @@
 //! The answer of a command.
-ghost use Rattle.std.specs.Prelude.{◌≡◌, ◌++◌, codes, decimal};
+ghost use Rattle.std.specs.Prelude.{◌≡◌, ◌≤◌, ◌++◌, codes, decimal, length};
 ghost use Rattle.uc_io.specs.Writing.{Writes};
 ghost use Rattle.session_text.specs.declared.answers.CommandAnswer.TheVariants.{Load};
 ghost use Rattle.session_text.specs.Lines.{answer_line, bad_file_text, hot_text, name_at};
@@ -8,25 +8,33 @@ use machine_steps::HotAnswer;
 use session_text::{CommandAnswer, LoadAnswer};
 use uc_bytes::{FileFault, Text};
 use uc_io::{Sink, SinkFailed, write_line};
-use uc_report::cause_text;
+use uc_report::{Line, cause_text};
 use uc_text::dec;
 
-/// `answer WORD`.
+/// `answer WORD`. The word has at most 20 bytes.
+#[inline(always)]
 fn put_word<S: Sink>(out: &mut S, word: &str) -> Result<(), SinkFailed>
+    requires { length word.now ≤ 20 }
     ensures { Writes S.stands S.faults out.old out.new (codes "answer " ++ word.now ++ codes "\n") result }
 {
-    write_line(out, &[b"answer ", word.as_bytes(), b"\n"])
+    let mut line = Line::new();
+    line.put(b"\n");
+    line.put(word.as_bytes());
+    line.put(b"answer ");
+    out.write(line.as_slice())
 }
 
-/// `answer WORD N`, the word being given with the space behind it.
+/// `answer WORD N`, the word being given with the space behind it. It has at most 20 bytes.
 fn put_numbered<S: Sink>(out: &mut S, word: &str, number: u64) -> Result<(), SinkFailed>
+    requires { length word.now ≤ 20 }
     ensures { Writes S.stands S.faults out.old out.new (codes "answer " ++ word.now ++ decimal number ++ codes "\n") result }
 {
-    let number = dec(number);
-    write_line(
-        out,
-        &[b"answer ", word.as_bytes(), number.as_slice(), b"\n"],
-    )
+    let mut line = Line::new();
+    line.put(b"\n");
+    line.put_dec(number);
+    line.put(word.as_bytes());
+    line.put(b"answer ");
+    out.write(line.as_slice())
 }
 
 /// What the machine refuses.

@@ -1,28 +1,29 @@
 //! The heading of a command.
-ghost use Rattle.std.specs.Prelude.{◌≡◌};
+ghost use Rattle.std.specs.Prelude.{◌≡◌, ◌+◌, ◌≤◌, ◌++◌, length};
 ghost use Rattle.uc_io.specs.Writing.{Writes};
 ghost use Rattle.session_text.specs.Lines.{command_line, number_text};
 ghost use Rattle.session_steps.specs.Session.{heading, number_in, word_of};
 
-use arrayvec::ArrayVec;
 use script_text::Command;
-use uc_io::{Sink, SinkFailed, write_line};
-use uc_text::dec;
+use uc_io::{Sink, SinkFailed};
+use uc_report::Line;
 
-/// The word of a command.
-fn word_of(command: &Command) -> &'static str
-    ensures { result.now ≡ word_of command.now }
+/// Puts the word of a command.
+fn put_word_of(line: &mut Line, command: &Command)
+    requires { 10 + length line.old ≤ 160 }
+    ensures bytes { line.new ≡ word_of command.now ++ line.old }
+    ensures len { length line.new ≤ 10 + length line.old }
 {
     match command {
-        Command::Boot(_) => "boot",
-        Command::Online(_) => "online",
-        Command::Offline(_) => "offline",
-        Command::Suspend => "suspend",
-        Command::Resume => "resume",
-        Command::Refuse(_) => "refuse",
-        Command::Accept(_) => "accept",
-        Command::Load { force: true, .. } => "load-force",
-        Command::Load { force: false, .. } => "load",
+        Command::Boot(_) => line.put(b"boot"),
+        Command::Online(_) => line.put(b"online"),
+        Command::Offline(_) => line.put(b"offline"),
+        Command::Suspend => line.put(b"suspend"),
+        Command::Resume => line.put(b"resume"),
+        Command::Refuse(_) => line.put(b"refuse"),
+        Command::Accept(_) => line.put(b"accept"),
+        Command::Load { force: true, .. } => line.put(b"load-force"),
+        Command::Load { force: false, .. } => line.put(b"load"),
     }
 }
 
@@ -39,17 +40,16 @@ fn number_in(command: &Command) -> Option<u16>
     }
 }
 
-/// ` N`, or nothing where there is no number.
-fn number_text(number: Option<u16>) -> ArrayVec<u8, 21>
-    ensures { result.items ≡ number_text number }
+/// Puts ` N`, or nothing where there is no number.
+fn put_number(line: &mut Line, number: Option<u16>)
+    requires { 21 + length line.old ≤ 160 }
+    ensures bytes { line.new ≡ number_text number ++ line.old }
+    ensures len { length line.new ≤ 21 + length line.old }
 {
-    let mut text = ArrayVec::new();
     if let Some(number) = number {
-        text.try_extend_from_slice(b" ").unwrap();
-        text.try_extend_from_slice(dec(u64::from(number)).as_slice())
-            .unwrap();
+        line.put_dec(u64::from(number));
+        line.put(b" ");
     }
-    text
 }
 
 /// `command K WORD`, with the thread or core that the command is for. Commands are numbered from 1.
@@ -57,18 +57,12 @@ fn number_text(number: Option<u16>) -> ArrayVec<u8, 21>
 pub fn put_heading<S: Sink>(out: &mut S, k: u32, command: &Command) -> Result<(), SinkFailed>
     ensures { Writes S.stands S.faults out.old out.new (heading k command.now) result }
 {
-    let k = dec(u64::from(k));
-    let word = word_of(command);
-    let number = number_text(number_in(command));
-    write_line(
-        out,
-        &[
-            b"command ",
-            k.as_slice(),
-            b" ",
-            word.as_bytes(),
-            number.as_slice(),
-            b"\n",
-        ],
-    )
+    let mut line = Line::new();
+    line.put(b"\n");
+    put_number(&mut line, number_in(command));
+    put_word_of(&mut line, command);
+    line.put(b" ");
+    line.put_dec(u64::from(k));
+    line.put(b"command ");
+    out.write(line.as_slice())
 }

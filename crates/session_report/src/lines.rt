@@ -1,5 +1,5 @@
 //! The lines between a heading and its answer.
-ghost use Rattle.std.specs.Prelude.{◌≡◌};
+ghost use Rattle.std.specs.Prelude.{◌≡◌, ◌+◌, ◌≤◌, ◌++◌, length};
 ghost use Rattle.uc_io.specs.Writing.{Writes};
 ghost use Rattle.report_text.specs.Lines.{safe_text};
 ghost use Rattle.item_text.specs.Items.{result_text};
@@ -10,17 +10,19 @@ use file_entries::EntryFacts;
 use machine_steps::{BringUp, Written};
 use rendezvous_steps::{End, ThreadResult};
 use uc_bytes::Vendor;
-use uc_io::{Sink, SinkFailed, write_line};
-use uc_text::{dec, hex8};
+use uc_io::{Sink, SinkFailed};
+use uc_report::Line;
 
-/// Whether a thread that came up wrote its patch, as it is printed.
-fn written_text(written: Written) -> &'static str
-    ensures { result.now ≡ written_text written }
+/// Puts whether a thread that came up wrote its patch.
+fn put_written(line: &mut Line, written: Written)
+    requires { 8 + length line.old ≤ 160 }
+    ensures bytes { line.new ≡ written_text written ++ line.old }
+    ensures len { length line.new ≤ 8 + length line.old }
 {
     match written {
-        Written::No => "",
-        Written::Wrote => " wrote",
-        Written::Refused => " refused",
+        Written::No => {}
+        Written::Wrote => line.put(b" wrote"),
+        Written::Refused => line.put(b" refused"),
     }
 }
 
@@ -29,20 +31,14 @@ fn written_text(written: Written) -> &'static str
 pub fn put_up<S: Sink>(out: &mut S, up: &BringUp) -> Result<(), SinkFailed>
     ensures { Writes S.stands S.faults out.old out.new (up_line up.now) result }
 {
-    let thread = dec(u64::from(up.thread));
-    let rev = hex8(up.rev);
-    let written = written_text(up.written);
-    write_line(
-        out,
-        &[
-            b"up ",
-            thread.as_slice(),
-            b" rev ",
-            &rev,
-            written.as_bytes(),
-            b"\n",
-        ],
-    )
+    let mut line = Line::new();
+    line.put(b"\n");
+    put_written(&mut line, up.written);
+    line.put_hex(up.rev);
+    line.put(b" rev ");
+    line.put_dec(u64::from(up.thread));
+    line.put(b"up ");
+    out.write(line.as_slice())
 }
 
 /// The lines of the threads that came up, in their order.
@@ -55,13 +51,15 @@ pub fn put_ups<S: Sink>(out: &mut S, ups: &[BringUp]) -> Result<(), SinkFailed>
     Ok(())
 }
 
-/// ` safe` for an update whose own minimum the revision reaches.
-fn safe_text(facts: &EntryFacts, rev: u32) -> &'static str
-    ensures { result.now ≡ safe_text facts.now.vendor facts.now.min rev }
+/// Puts ` safe` for an update whose own minimum the revision reaches.
+fn put_safe(line: &mut Line, facts: &EntryFacts, rev: u32)
+    requires { 5 + length line.old ≤ 160 }
+    ensures bytes { line.new ≡ safe_text facts.now.vendor facts.now.min rev ++ line.old }
+    ensures len { length line.new ≤ 5 + length line.old }
 {
     match facts.vendor {
-        Vendor::Intel if facts.min != 0 && facts.min <= rev => " safe",
-        _ => "",
+        Vendor::Intel if facts.min != 0 && facts.min <= rev => line.put(b" safe"),
+        _ => {}
     }
 }
 
@@ -77,52 +75,48 @@ pub fn put_load_offer<S: Sink>(
 ) -> Result<(), SinkFailed>
     ensures { Writes S.stands S.faults out.old out.new (load_offer_line core rev number facts.now) result }
 {
-    let core = dec(u64::from(core));
-    let number = dec(u64::from(number));
-    let len = dec(facts.len);
-    let new = hex8(facts.rev);
-    let safe = safe_text(facts, rev);
-    write_line(
-        out,
-        &[
-            b"offer core ",
-            core.as_slice(),
-            b" entry ",
-            number.as_slice(),
-            b" len ",
-            len.as_slice(),
-            b" rev ",
-            &new,
-            safe.as_bytes(),
-            b"\n",
-        ],
-    )
+    let mut line = Line::new();
+    line.put(b"\n");
+    put_safe(&mut line, facts, rev);
+    line.put_hex(facts.rev);
+    line.put(b" rev ");
+    line.put_dec(facts.len);
+    line.put(b" len ");
+    line.put_dec(u64::from(number));
+    line.put(b" entry ");
+    line.put_dec(u64::from(core));
+    line.put(b"offer core ");
+    out.write(line.as_slice())
 }
 
-/// What a thread leaves with, as it is printed.
-fn result_text(left: ThreadResult) -> &'static str
-    ensures { result.now ≡ result_text left }
+/// Puts what a thread leaves with.
+fn put_result(line: &mut Line, left: ThreadResult)
+    requires { 7 + length line.old ≤ 160 }
+    ensures bytes { line.new ≡ result_text left ++ line.old }
+    ensures len { length line.new ≤ 7 + length line.old }
 {
     match left {
-        ThreadResult::Updated => "updated",
-        ThreadResult::Okay => "ok",
-        ThreadResult::Current => "current",
-        ThreadResult::Error => "error",
-        ThreadResult::Timeout => "timeout",
-        ThreadResult::Offline => "offline",
+        ThreadResult::Updated => line.put(b"updated"),
+        ThreadResult::Okay => line.put(b"ok"),
+        ThreadResult::Current => line.put(b"current"),
+        ThreadResult::Error => line.put(b"error"),
+        ThreadResult::Timeout => line.put(b"timeout"),
+        ThreadResult::Offline => line.put(b"offline"),
     }
 }
 
-/// How a thread came out of a rendezvous, as it is printed.
-fn end_text(end: End) -> &'static str
-    ensures { result.now ≡ end_text end }
+/// Puts how a thread came out of a rendezvous.
+fn put_end(line: &mut Line, end: End)
+    requires { 10 + length line.old ≤ 160 }
+    ensures bytes { line.new ≡ end_text end ++ line.old }
+    ensures len { length line.new ≤ 10 + length line.old }
 {
     match end {
-        End::Left(left) => result_text(left),
-        End::Halted => "halted",
-        End::Withdrawn => "withdrawn",
-        End::Unfinished => "unfinished",
-        End::Absent => "",
+        End::Left(left) => put_result(line, left),
+        End::Halted => line.put(b"halted"),
+        End::Withdrawn => line.put(b"withdrawn"),
+        End::Unfinished => line.put(b"unfinished"),
+        End::Absent => {}
     }
 }
 
@@ -131,9 +125,13 @@ fn end_text(end: End) -> &'static str
 pub fn put_cpu<S: Sink>(out: &mut S, t: u16, end: End) -> Result<(), SinkFailed>
     ensures { Writes S.stands S.faults out.old out.new (cpu_line t end) result }
 {
-    let t = dec(u64::from(t));
-    let end = end_text(end);
-    write_line(out, &[b"cpu ", t.as_slice(), b" ", end.as_bytes(), b"\n"])
+    let mut line = Line::new();
+    line.put(b"\n");
+    put_end(&mut line, end);
+    line.put(b" ");
+    line.put_dec(u64::from(t));
+    line.put(b"cpu ");
+    out.write(line.as_slice())
 }
 
 /// `core C rev HEX`: a core, with the revision of its group.
@@ -141,7 +139,11 @@ pub fn put_cpu<S: Sink>(out: &mut S, t: u16, end: End) -> Result<(), SinkFailed>
 pub fn put_core<S: Sink>(out: &mut S, core: u16, rev: u32) -> Result<(), SinkFailed>
     ensures { Writes S.stands S.faults out.old out.new (core_line core rev) result }
 {
-    let core = dec(u64::from(core));
-    let rev = hex8(rev);
-    write_line(out, &[b"core ", core.as_slice(), b" rev ", &rev, b"\n"])
+    let mut line = Line::new();
+    line.put(b"\n");
+    line.put_hex(rev);
+    line.put(b" rev ");
+    line.put_dec(u64::from(core));
+    line.put(b"core ");
+    out.write(line.as_slice())
 }

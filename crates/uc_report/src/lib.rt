@@ -13,6 +13,7 @@ mod offers;
 mod show;
 
 pub use errors::{cause_text, put_fault, put_no_entry, put_topology_fault, put_unread, put_usage};
+pub use line::Line;
 pub use list::put_list;
 pub use offers::put_offers;
 pub use show::put_show;

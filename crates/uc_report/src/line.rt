@@ -10,7 +10,7 @@ use uc_text::hex8;
 /// How many bytes a line has at most.
 const MOST: usize = 160;
 
-/// A line, of which the end is there. A contract sees the list of its bytes.
+/// A line of at most 160 bytes, of which the end is there. A contract sees the list of its bytes.
 #[derive(Drop)]
 pub struct Line {
     bytes: [u8; MOST],
@@ -43,6 +43,7 @@ impl Line {
         }
     }
 
+    /// The bytes that are there.
     pub fn as_slice(&self) -> &[u8]
         ensures { result.now ≡ self.now }
     {
