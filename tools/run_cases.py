@@ -46,7 +46,8 @@ HIGH = cores(FITS + " rev 0x80000000")
 PACKAGES = ("ucode-topology 2\nvendor intel\n"
             + "".join(f"core {c} package {c // 2} {FITS} rev 0xb4\n" for c in range(3))
             + "".join(f"cpu {c} core {c}\n" for c in range(3)))
-FILES = {"a": update(), "b": update(0xF4), "d": update(data=2000), "h": update(0x800000F0, least=0xB4), "short": b"short"}
+FILES = {"a": update(), "b": update(0xF4), "d": update(data=2000), "h": update(0x800000F0, least=0xB4), "short": b"short",
+         "later": update(0xF4, least=0xF0)}
 
 # A container's row and patch, how long the patch is, and how it is listed: its id, its family, and its signature.
 LISTED = [
@@ -64,6 +65,8 @@ SESSIONS = [
     (ONE, "boot h\n", 0, "command 1 boot\nup 0 rev 0x800000f0 wrote\nanswer done\n"),
     (HIGH, "boot\nload h\nend\nsuspend\n", 3, "command 2 load\noffer core 0 entry 0 len 64 rev 0x800000f0 safe\n"
      "cpu 0 unfinished\ncore 0 rev 0x80000000\nanswer unfinished 0\n"),
+    (ONE, "boot a\nload later\nend\nsuspend\n", 3, "command 2 load\noffer core 0 entry 0 len 64 rev 0x000000f4 safe\n"
+     "cpu 0 unfinished\ncore 0 rev 0x000000f0\nanswer unfinished 0\n"),
     (PACKAGES, "refuse 1\nboot a\n", 0, "command 1 refuse 1\nanswer done\ncommand 2 boot\nup 0 rev 0x000000b4 refused\n"
      "up 1 rev 0x000000b4\nup 2 rev 0x000000f0 wrote\nanswer done\n"),
     (PAIR, "boot\nload a\ns0 s1 s0 s1 s1 s0 s0 s0 t1\nend\n", 6,
