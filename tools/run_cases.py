@@ -46,8 +46,7 @@ HIGH = cores(FITS + " rev 0x80000000")
 PACKAGES = ("ucode-topology 2\nvendor intel\n"
             + "".join(f"core {c} package {c // 2} {FITS} rev 0xb4\n" for c in range(3))
             + "".join(f"cpu {c} core {c}\n" for c in range(3)))
-FILES = {"a": update(), "b": update(0xF4), "d": update(data=2000), "h": update(0x800000F0, least=0xB4), "short": b"short",
-         "later": update(0xF4, least=0xF0)}
+FILES = {"a": update(), "b": update(0xF4), "d": update(data=2000), "h": update(0x800000F0, least=0xB4), "short": b"short"}
 
 # A container's row and patch, how long the patch is, and how it is listed: its id, its family, and its signature.
 LISTED = [
@@ -126,7 +125,8 @@ def selections():
 
 def sessions():
     for topology, commands, status, end in SESSIONS:
-        files = {**FILES, "x": WITH_TABLE, "t": topology.encode(), "s": (SCRIPT + commands).encode()}
+        files = {**FILES, "x": WITH_TABLE, "later": update(0xF4, least=0xF0)}
+        files.update({"t": topology.encode(), "s": (SCRIPT + commands).encode()})
         yield ["play", "t", "s"], files, status, "", end
 
 

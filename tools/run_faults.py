@@ -96,6 +96,7 @@ SCRIPTS = [
     (SCRIPT + "refuse 1\n", "2 range"), (SCRIPT + "pool 0\n", "2 range"), (SCRIPT + "pool 65537\n", "2 range"),
     (SCRIPT + "pool 65536\n", None), (SCRIPT + "pool 1\n", None), (SCRIPT + "patience 4294967296\n", "2 range"),
     (SCRIPT + "patience 4294967295\n", None), (SCRIPT + "patience 18446744073709551616\n", "2 number"),
+    (SCRIPT + "patience 0\n", None),
     (SCRIPT + "load a\ns1\nend\n", "3 range"), (SCRIPT + "load a\ns1 sx\nend\n", "3 number"),
     (SCRIPT + "load a\ns1 sx x\nend\n", "3 word"), (SCRIPT + "load a\n*0\nend\n", "3 range"),
     (SCRIPT + "load a\n*65536\nend\n", "3 range"), (SCRIPT + "load a\n*65535\n", "2 no-end"),

@@ -65,7 +65,7 @@ def whole_lines(path):
         for number, line in enumerate(file, 1):
             line = line.rstrip("\n")
             if line.startswith(" ") and whole:
-                whole[-1][1] += " " + line.strip()
+                whole[-1][1] += " " + line.lstrip(" ")
             elif line and not line.startswith("#"):
                 whole.append([number, line])
     return whole
