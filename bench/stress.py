@@ -7,7 +7,7 @@ import tempfile
 
 import page
 
-USED = "rendezvous_steps ctl_words ctl_core ctl_table uc_live arrayvec"
+USED = "rendezvous_steps ctl_words uc_rendezvous ctl_table uc_live arrayvec"
 PROGRAM = r"""
 //! Lets drawn plans rendezvous at a gate that yields at random, compares what each comes to with what a run may come
 //! to, and prints how often each kind of outcome came. It ends with 1 at the first outcome that no run may have.
@@ -17,7 +17,7 @@ ghost use Rattle.std.specs.Prelude.{◌≤◌};
 ghost use Rattle.ctl_words.specs.Plans.{IsSound};
 
 use arrayvec::ArrayVec;
-use ctl_core::RunAnswer;
+use uc_rendezvous::RunAnswer;
 use ctl_table::{End, Outcome, Plan, ThreadResult};
 use rendezvous_steps::Kind;
 use std::alloc::Global;

@@ -10,7 +10,7 @@ use Rattle.rendezvous_model.specs.Outcome.{Outcome}
 use Rattle.rendezvous_model.specs.Verdict.{end_at}
 use Rattle.rendezvous_rule.specs.Runs.{RunOf}
 use Rattle.play_laws.specs.Lawful.{EventLaw, OpeningIsLawful}
-use Rattle.item_text.specs.Items.{item_line}
+use Rattle.rendezvous_steps.specs.ItemText.{item_line}
 use Rattle.region_steps.specs.Region.{Patches}
 use Rattle.machine_steps.specs.declared.answers.HotAnswer.{HotAnswer}
 use Rattle.machine_steps.specs.declared.answers.HotAnswer.TheVariants as hot

@@ -20,7 +20,7 @@ use Rattle.rendezvous_model.specs.Verdict.{Verdict, load_verdict}
 use Rattle.rendezvous_model.specs.Verdict as verdict
 use Rattle.rendezvous_rule.specs.Runs.{AlwaysRuns, SomeRun}
 use Rattle.round_laws.specs.Laws.{VerdictHolds}
-use Rattle.item_text.specs.Items.{item_line}
+use Rattle.rendezvous_steps.specs.ItemText.{item_line}
 use Rattle.machine_steps.specs.declared.answers.HotAnswer.{HotAnswer}
 use Rattle.machine_steps.specs.declared.answers.HotAnswer.TheVariants as hot
 use Rattle.machine_steps.specs.Hardware.{Hardware, is_off}

@@ -3,7 +3,7 @@ use Rattle.std.specs.Prelude.{◌≡◌, ℕ, Bool, false, List, All}
 use Rattle.uc_topology.specs.Stated.{IsPartition}
 use Rattle.file_reads.specs.Reads.{AreHeld}
 use Rattle.rendezvous_rule.specs.Runs.{AlwaysRuns}
-use Rattle.item_text.specs.Items.{item_line}
+use Rattle.rendezvous_steps.specs.ItemText.{item_line}
 use Rattle.script_text.specs.declared.command.Command.{Command}
 use Rattle.session_steps.specs.State.{Setting, State}
 use Rattle.session_steps.specs.Did.{Did}

@@ -9,12 +9,12 @@ use Rattle.rendezvous_model.specs.Round.{State}
 use Rattle.rendezvous_model.specs.Outcome.{Outcome, end_of, decide_of}
 use Rattle.std.specs.List.{range_with_len}
 use Rattle.play_laws.proofs.Listed.{plays_are_listed}
-use Rattle.item_text.specs.Items.{item_line}
-use Rattle.ctl_core.specs.declared.outcomes.Outcome.{Outcome as Tables}
-use Rattle.ctl_core.specs.declared.runs.RunAnswer.{RunAnswer}
-use Rattle.ctl_core.specs.declared.runs.RunAnswer.TheVariants.{WriteFault, NoMemory}
-use Rattle.ctl_core.specs.Outcomes.{outcome_of, came_to}
-use Rattle.ctl_core.specs.Runs.{IsRun}
+use Rattle.rendezvous_steps.specs.ItemText.{item_line}
+use Rattle.uc_rendezvous.specs.declared.outcomes.Outcome.{Outcome as Tables}
+use Rattle.uc_rendezvous.specs.declared.runs.RunAnswer.{RunAnswer}
+use Rattle.uc_rendezvous.specs.declared.runs.RunAnswer.TheVariants.{WriteFault, NoMemory}
+use Rattle.uc_rendezvous.specs.Outcomes.{outcome_of, came_to}
+use Rattle.uc_rendezvous.specs.Runs.{IsRun}
 use Rattle.ctl_core.specs.Playing.{schedule_lines, schedule_end, PlayedTo}
 
 -- the outcome that shows a state

@@ -19,7 +19,7 @@ use Rattle.rendezvous_model.specs.Outcome.{Outcome, OutcomeShows}
 use Rattle.rendezvous_rule.specs.Shown.{shown_by}
 use Rattle.rendezvous_runs.specs.Play.{is_over, play, last_moment}
 use Rattle.rendezvous_runs.proofs.Play.{play_append, last_moment_append, play_over, last_moment_over}
-use Rattle.item_text.specs.Items.{item_line}
+use Rattle.rendezvous_steps.specs.ItemText.{item_line}
 use Rattle.ctl_core.specs.Playing.{lines_of, Plays}
 
 lines_append : (plan : Plan) (before mid : Running) (xs ys : List Event) → mid ≡ last_moment plan before xs → lines_of plan before (xs ++ ys) ≡ lines_of plan before xs ++ lines_of plan mid ys

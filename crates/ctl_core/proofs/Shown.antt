@@ -1,4 +1,4 @@
--- What the state that is shown says of ends and of the decision.
+-- What the state that is shown says of unfinished threads.
 use Rattle.std.proofs.Common.{◌≡◌, ℕ, ◌==◌, ◌&&◌, ◌||◌, Bool, true, false, not, nat_le, refl, ap, sym, arith}
 use Rattle.std.proofs.Math.Path.{fun_ext}
 use Rattle.std.proofs.lemmas.Bool.Decides.{nat_tests}
@@ -10,20 +10,9 @@ use Rattle.rendezvous_steps.specs.declared.steps.How.TheVariants.{Step}
 use Rattle.rendezvous_steps.specs.declared.operations.Word.TheVariants.{Mode, Ctrl, Nmi}
 use Rattle.rendezvous_steps.specs.Events.{Running, shows_finished, steps}
 use Rattle.rendezvous_model.specs.Round.{is_unfinished}
-use Rattle.rendezvous_model.specs.Outcome.{decide_of}
-use Rattle.rendezvous_rule.specs.Shown.{place_before_end, place_of, stage_of, shown_by}
+use Rattle.rendezvous_rule.specs.Shown.{place_before_end, place_of, shown_by}
 use Rattle.ctl_core.specs.Moments.{unfinished_from, is_poll, ready_from}
 use Rattle.ctl_core.specs.Cores.{lowest_unfinished, lowest_ready}
-
--- what a decision's word is by the stage
-pub decide_shown : (d : ℕ) → d ≡ decide_of (stage_of d)
-decide_shown d = by_first d (d == 0) refl (d == 1) refl (d == 2) refl
-  where
-    by_first : (d : ℕ) (a : Bool) → (d == 0) ≡ a → (b : Bool) → (d == 1) ≡ b → (c : Bool) → (d == 2) ≡ c → d ≡ decide_of (stage_of d)
-    by_first d true e b f c g = rw e (grind (arith, nat_tests))
-    by_first d false e true f c g = rw (e, f) (grind (arith, nat_tests))
-    by_first d false e false f true g = rw (e, f, g) (grind (arith, nat_tests))
-    by_first d false e false f false g = rw (e, f, g) (grind (arith, nat_tests))
 
 -- a thread is unfinished by its place just where it is by its words
 

@@ -20,5 +20,7 @@ pub record Linking (plan : Plan) (table heads : List (Option ℕ)) (from : ℕ) 
   pub threads : length table ≡ plan.threads
   pub groups : length heads ≡ plan.groups
   pub below : from ≤ plan.threads
-  pub linked : (t : ℕ) → from ≤ t → t < plan.threads → slice_index_or table t None ≡ member_from plan (plan.group t) (t + 1)
+  pub linked :
+      (t : ℕ) → from ≤ t → t < plan.threads →
+      slice_index_or table t None ≡ member_from plan (plan.group t) (t + 1)
   pub lowest : (g : ℕ) → g < plan.groups → slice_index_or heads g None ≡ member_from plan g from

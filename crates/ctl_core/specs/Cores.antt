@@ -6,6 +6,7 @@ use Rattle.rendezvous_steps.specs.Plan.{Plan, threads_from}
 use Rattle.rendezvous_steps.specs.Events.{Running, steps}
 use Rattle.rendezvous_model.specs.Round.{State, is_unfinished}
 use Rattle.rendezvous_rule.specs.Shown.{shown_by}
+use Rattle.play_laws.specs.Lawful.{Lawful}
 use Rattle.ctl_words.specs.Plans.{plan_of}
 use Rattle.ctl_core.specs.Moments.{running_of, is_poll}
 use Rattle.ctl_core.specs.declared.cores.Core.{Core}
@@ -20,6 +21,10 @@ moment_in core = running_of core.moment
 abbrev pub state_in : Core → State
 state_in core = shown_by (plan_in core) (moment_in core)
 
+-- its moment meets the rule between steps, and an NMI is latched only for a thread that came into the handler
+abbrev pub IsLawful : Core → Type 0
+IsLawful core = Lawful (plan_in core) (moment_in core)
+
 -- how many items so far were none of Poll, Idle, Latched and Ordinary
 abbrev pub spent_in : Core → ℕ
 spent_in core = core.spent
@@ -31,4 +36,5 @@ lowest_unfinished plan state = find (λ t. is_unfinished (state.place t)) (threa
 -- the lowest unfinished thread whose next step is no Poll
 abbrev pub lowest_ready : Plan → Running → Option ℕ
 lowest_ready plan moment =
-    find (λ t. is_unfinished ((shown_by plan moment).place t) && not (is_poll (steps plan t Step moment).1)) (threads_from plan 0)
+    find (λ t. is_unfinished ((shown_by plan moment).place t) && not (is_poll (steps plan t Step moment).1))
+    (threads_from plan 0)

@@ -15,9 +15,11 @@ use Rattle.rendezvous_runs.specs.Play.{play, last_moment}
 use Rattle.play_laws.specs.Stuck.{rounds_in}
 
 -- the text is the lines of the items of the schedule, and the outcome is that of its last moment
-pub record IsPlayed (line : Item → List ℕ) (plan : Plan) (beats : List Beat) (text : List ℕ) (outcome : Outcome) : Type 0 where
+pub record IsPlayed
+    (line : Item → List ℕ) (plan : Plan) (beats : List Beat) (text : List ℕ) (outcome : Outcome) : Type 0 where
   pub text_is : text ≡ flat_map line (play plan (opening_running plan) (events_of plan beats))
-  pub comes_out : OutcomeShows plan outcome (shown_by plan (last_moment plan (opening_running plan) (events_of plan beats)))
+  pub comes_out :
+      OutcomeShows plan outcome (shown_by plan (last_moment plan (opening_running plan) (events_of plan beats)))
 
 -- a plan and beats have one run that lists its items
 abbrev pub ListedIsPlayed : Type 0

@@ -1,6 +1,4 @@
-pub mod Outcomes
 pub mod Lines
-pub mod Runs
 pub mod Chains
 pub mod Stands
 pub mod Moments

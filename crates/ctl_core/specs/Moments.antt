@@ -1,9 +1,10 @@
 -- A moment of a rendezvous, seen as its lists, and the moment of the definition that they stand for.
-use Rattle.std.specs.Prelude.{◌≡◌, ◌==◌, ℕ, ◌<◌, ◌^◌, Bool, true, false, not, ◌&&◌, nat_le, List, length, slice_get, unwrap_or, count_by, Option, Some, None}
+use Rattle.std.specs.Prelude.{◌≡◌, ◌==◌, ℕ, ◌<◌, ◌^◌, Bool, true, false, not, ◌&&◌, nat_le, List, length, slice_get}
+use Rattle.std.specs.Prelude.{unwrap_or, count_by, Option, Some, None}
 use Rattle.std.specs.List.{find}
-use Rattle.rendezvous_steps.specs.declared.ends.End.{End}
 use Rattle.rendezvous_steps.specs.declared.steps.Phase.{Phase}
-use Rattle.rendezvous_steps.specs.declared.steps.Phase.TheVariants.{Waiting, SiblingWait, OfflineHold, Left, Halted, Withdrawn, Nothing}
+use Rattle.rendezvous_steps.specs.declared.steps.Phase.TheVariants.{Waiting, SiblingWait, OfflineHold, Left, Halted}
+use Rattle.rendezvous_steps.specs.declared.steps.Phase.TheVariants.{Withdrawn, Nothing}
 use Rattle.rendezvous_steps.specs.declared.steps.Local.{Local}
 use Rattle.rendezvous_steps.specs.declared.operations.Word.{Word}
 use Rattle.rendezvous_steps.specs.declared.operations.Word.TheVariants.{Decide, Mode, Ctrl, Nmi, Rev}
@@ -13,8 +14,6 @@ use Rattle.rendezvous_steps.specs.declared.items.What.TheVariants.{Poll}
 use Rattle.rendezvous_steps.specs.Plan.{Plan, threads_from}
 use Rattle.rendezvous_steps.specs.StepTable.{write_of}
 use Rattle.rendezvous_steps.specs.Events.{Running, shows_finished, steps}
-use Rattle.rendezvous_model.specs.Outcome.{end_of}
-use Rattle.rendezvous_rule.specs.Shown.{place_of}
 use Rattle.ctl_words.specs.Lists.{Lists, has_word, word_of}
 use Rattle.ctl_words.specs.Places.{is_word}
 use Rattle.ctl_core.specs.Chains.{Tables, Chained}
@@ -26,10 +25,6 @@ unfinished_in plan words = count_by (λ t. not (shows_finished plan words t)) (t
 -- the lowest unfinished thread from one on
 unfoldable pub unfinished_from : Plan → (Word → ℕ) → ℕ → Option ℕ
 unfinished_from plan words k = find (λ t. not (shows_finished plan words t)) (threads_from plan k)
-
--- how the words show that a thread came out
-abbrev pub end_in : Plan → (Word → ℕ) → ℕ → End
-end_in plan words t = end_of (place_of (plan.kind t) (words (Mode t)) (words (Ctrl t)) (words (Nmi t)))
 
 -- the thread that a word is one of
 abbrev pub owner : Word → Option ℕ

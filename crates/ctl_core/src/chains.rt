@@ -30,7 +30,12 @@ impl Model for Chains {
 
     ghost Value = { Tables };
 
-    ghost view = { λ a. record { members = a.members.items; offline = a.offline.items; offline_count = a.offline_count } };
+    ghost view = { λ a.
+        record {
+          members = a.members.items;
+          offline = a.offline.items;
+          offline_count = a.offline_count;
+        } };
 }
 
 impl Chains {
@@ -48,8 +53,8 @@ impl Chains {
         }
     }
 
-    /// Links the threads of a plan, in the room that there is, and takes memory only for more. It answers want of memory and
-    /// nothing else; what the tables hold means nothing then.
+    /// Links the threads of a plan, in the room that there is, and takes memory only for more. It answers want of
+    /// memory and nothing else; what the tables hold means nothing then.
     pub fn begin(&mut self, plan: &Plan) -> Result<(), NoMemory>
         requires { IsSound plan.now }
         ensures { OnOk result (Chained (plan_of plan.now) self.new) }
@@ -73,8 +78,8 @@ impl Chains {
     }
 }
 
-/// By thread, the next thread of its group that takes part. The threads are gone through from the last down, and the lowest
-/// so far of each group is kept.
+/// By thread, the next thread of its group that takes part. The threads are gone through from the last down, and the
+/// lowest so far of each group is kept.
 fn fill_members(
     table: &mut Vec<Option<u16>>,
     lowest: &mut Vec<Option<u16>>,

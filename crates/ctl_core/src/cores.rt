@@ -6,11 +6,11 @@ ghost use Rattle.ctl_words.specs.Plans.{plan_of, IsSound};
 ghost use Rattle.ctl_core.specs.Moments.{running_of, Fits};
 
 use crate::moments::Moment;
-use crate::outcomes::Outcome;
 use ctl_words::Plan;
 use rendezvous_steps::{Event, Item, What};
 use std::alloc::Global;
 use uc_bytes::NoMemory;
+use uc_rendezvous::Outcome;
 
 /// A rendezvous with a plan, at one moment.
 #[derive(Drop)]
@@ -28,11 +28,11 @@ impl<'a> Core<'a> {
     ghost use Rattle.rendezvous_steps.specs.Events.{happens, opening_running};
     ghost use Rattle.rendezvous_model.specs.RoundStep.{Round, thread_of};
     ghost use Rattle.rendezvous_model.specs.Safe.{Safe};
-    ghost use Rattle.play_laws.specs.Lawful.{Lawful};
     ghost use Rattle.rendezvous_runs.specs.Play.{is_over};
     ghost use Rattle.rendezvous_model.specs.Outcome.{OutcomeShows};
-    ghost use Rattle.ctl_core.specs.Outcomes.{outcome_of};
-    ghost use Rattle.ctl_core.specs.Cores.{plan_in, moment_in, state_in, spent_in, lowest_unfinished, lowest_ready};
+    ghost use Rattle.uc_rendezvous.specs.Outcomes.{outcome_of};
+    ghost use Rattle.ctl_core.specs.Cores.{plan_in, moment_in, state_in, spent_in, IsLawful};
+    ghost use Rattle.ctl_core.specs.Cores.{lowest_unfinished, lowest_ready};
 
     /// The moment in which a rendezvous with this plan begins. It answers want of memory and nothing else.
     pub fn new(alloc: Global, plan: &'a Plan) -> Result<Core<'a>, NoMemory>
@@ -40,7 +40,7 @@ impl<'a> Core<'a> {
         ensures plan { IfOk result (λ core. plan_in core ≡ plan_of plan.now) }
         ensures opening { IfOk result (λ core. moment_in core ≡ opening_running (plan_of plan.now)) }
         ensures spent { IfOk result (λ core. spent_in core ≡ 0) }
-        ensures lawful { IfOk result (λ core. Lawful (plan_in core) (moment_in core)) }
+        ensures lawful { IfOk result IsLawful }
     {
         Core::over(Moment::none(alloc), plan)
     }
@@ -51,7 +51,7 @@ impl<'a> Core<'a> {
         ensures plan { IfOk result (λ core. plan_in core ≡ plan_of plan.now) }
         ensures opening { IfOk result (λ core. moment_in core ≡ opening_running (plan_of plan.now)) }
         ensures spent { IfOk result (λ core. spent_in core ≡ 0) }
-        ensures lawful { IfOk result (λ core. Lawful (plan_in core) (moment_in core)) }
+        ensures lawful { IfOk result IsLawful }
     {
         moment.begin(plan)?;
         Ok(Core {
@@ -84,9 +84,10 @@ impl<'a> Core<'a> {
         ensures moment { moment_in self.new ≡ (happens (plan_in self.old) event (moment_in self.old)).0 }
         ensures plan { plan_in self.new ≡ plan_in self.old }
         ensures spent { spent_in self.new ≡ spent_in self.old + (if is_counted result.what then 1 else 0) }
-        ensures lawful { Lawful (plan_in self.old) (moment_in self.old) → Lawful (plan_in self.new) (moment_in self.new) }
-        ensures round { Lawful (plan_in self.old) (moment_in self.old) → Round (plan_in self.old) (state_in self.old) event result.what (state_in self.new) }
-        ensures safe { Lawful (plan_in self.old) (moment_in self.old) → Safe (plan_in self.new) (state_in self.new) }
+        ensures lawful { IsLawful self.old → IsLawful self.new }
+        ensures round { IsLawful self.old
+            → Round (plan_in self.old) (state_in self.old) event result.what (state_in self.new) }
+        ensures safe { IsLawful self.old → Safe (plan_in self.new) (state_in self.new) }
     {
         let item = self.moment.event(self.plan, event);
         if is_counted(item.what) {
@@ -114,7 +115,8 @@ impl<'a> Core<'a> {
     /// over.
     pub fn ready(&self) -> Option<u16>
         ensures lowest { result ≡ lowest_ready (plan_in self.now) (moment_in self.now) }
-        ensures none { Lawful (plan_in self.now) (moment_in self.now) → (IsNone result ↔ IsTrue (is_over (plan_in self.now) (moment_in self.now))) }
+        ensures none { IsLawful self.now
+            → (IsNone result ↔ IsTrue (is_over (plan_in self.now) (moment_in self.now))) }
     {
         self.moment.first_ready(self.plan)
     }

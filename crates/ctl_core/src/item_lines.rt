@@ -3,7 +3,7 @@
 ghost use Rattle.std.specs.Prelude.{◌≡◌, ◌+◌, ◌<◌, ◌≤◌, ◌++◌, length, codes, decimal};
 ghost use Rattle.arrayvec.specs.ArrayVec.{array_vec_len};
 ghost use Rattle.rendezvous_steps.specs.declared.items.What.TheVariants.{Wrote, Report, Leave};
-ghost use Rattle.item_text.specs.Items.{result_text, item_line};
+ghost use Rattle.rendezvous_steps.specs.ItemText.{result_text, item_line};
 ghost use Rattle.ctl_core.specs.Lines.{words_line};
 
 use arrayvec::ArrayVec;
@@ -13,7 +13,7 @@ use uc_text::hex8;
 
 /// `T WORDS` and a line feed in place of what the line held: the thread, and what it did.
 #[inline(always)]
-#[tactic(auto, unfolding(item_text::specs::Items::item_line))]
+#[tactic(auto, unfolding(rendezvous_steps::specs::ItemText::item_line))]
 pub fn compose(line: &mut ArrayVec<u8, 64>, item: &Item)
     ensures { line.new.items ≡ item_line item.now }
 {

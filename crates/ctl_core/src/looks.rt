@@ -2,11 +2,13 @@
 
 ghost use Rattle.std.specs.Prelude.{◌≡◌, ◌||◌, ◌<◌, ◌≤◌, ◌+◌, ◌^◌, ℕ, cond, not};
 ghost use Rattle.rendezvous_steps.specs.declared.operations.Word.TheVariants.{Mode, Nmi};
-ghost use Rattle.rendezvous_steps.specs.Events.{is_inside, shows_left, shows_halted, shows_withdrawn, shows_held, shows_finished};
+ghost use Rattle.rendezvous_steps.specs.Events.{is_inside, shows_left, shows_halted, shows_withdrawn, shows_held};
+ghost use Rattle.rendezvous_steps.specs.Events.{shows_finished};
 ghost use Rattle.rendezvous_steps.specs.StepTable.{write_of};
 ghost use Rattle.ctl_words.specs.Lists.{word_of};
 ghost use Rattle.ctl_words.specs.Plans.{plan_of, IsSound};
-ghost use Rattle.ctl_core.specs.Moments.{unfinished_in, unfinished_from, end_in, owner, is_end};
+ghost use Rattle.ctl_core.specs.Moments.{unfinished_in, unfinished_from, owner, is_end};
+ghost use Rattle.uc_rendezvous.specs.Ends.{end_in};
 
 use ctl_words::{PlainWords, Plan};
 use rendezvous_steps::{End, Kind, ThreadResult, Word};
@@ -34,7 +36,8 @@ pub fn is_withdrawn(words: &PlainWords, plan: &Plan, thread: u16) -> bool
 
 /// Whether it left or was withdrawn.
 pub fn is_over(words: &PlainWords, plan: &Plan, thread: u16) -> bool
-    ensures { result ≡ (shows_left (word_of words.now) thread || shows_withdrawn (plan_of plan.now) (word_of words.now) thread) }
+    ensures { result
+        ≡ (shows_left (word_of words.now) thread || shows_withdrawn (plan_of plan.now) (word_of words.now) thread) }
 {
     has_left(words, thread) || is_withdrawn(words, plan, thread)
 }
@@ -58,7 +61,8 @@ pub fn is_held(words: &PlainWords, plan: &Plan, thread: u16) -> bool
 }
 
 fn is_inside(words: &PlainWords, plan: &Plan, thread: u16) -> bool
-    ensures { result ≡ is_inside ((plan_of plan.now).kind thread) (word_of words.now (Mode thread)) (word_of words.now (Nmi thread)) }
+    ensures { let word = word_of words.now in
+        result ≡ is_inside ((plan_of plan.now).kind thread) (word (Mode thread)) (word (Nmi thread)) }
 {
     let mode = words.get(Word::Mode(thread));
     match plan.kind_of(thread) {

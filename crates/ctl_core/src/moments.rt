@@ -1,11 +1,14 @@
 //! The state between two events, and one event.
 
-ghost use Rattle.std.specs.Prelude.{◌≡◌, ◌<◌, ◌||◌, ◌^◌, ℕ, false, map, length, replicate, slice_set, OnOk, IsTrue, Some, None};
+ghost use Rattle.std.specs.Prelude.{◌≡◌, ◌<◌, ◌||◌, ◌^◌, ℕ, false, map, length, replicate, slice_set, OnOk, IsTrue};
+ghost use Rattle.std.specs.Prelude.{Some, None};
 ghost use Rattle.rendezvous_steps.specs.declared.operations.Word.TheVariants.{Rev, Decide as DecideWord};
 ghost use Rattle.rendezvous_steps.specs.declared.steps.How.TheVariants.{Step as StepHow};
 ghost use Rattle.rendezvous_steps.specs.declared.steps.Kind.TheVariants.{Online, Offline};
 ghost use Rattle.rendezvous_steps.specs.Plan.{threads_from};
-ghost use Rattle.rendezvous_steps.specs.Events.{happens, performs, steps, runs, runs_by, nmi_comes, nmi_by, nmi_offline, runs_ordinary, latches, opening_running, left_with_latch, is_outside, shows_left, shows_halted, shows_withdrawn, shows_held};
+ghost use Rattle.rendezvous_steps.specs.Events.{happens, performs, steps, runs, runs_by, nmi_comes, nmi_by};
+ghost use Rattle.rendezvous_steps.specs.Events.{nmi_offline, runs_ordinary, latches, opening_running, left_with_latch};
+ghost use Rattle.rendezvous_steps.specs.Events.{is_outside, shows_left, shows_halted, shows_withdrawn, shows_held};
 ghost use Rattle.rendezvous_steps.specs.StepTable.{operation, opening};
 ghost use Rattle.rendezvous_steps.specs.Words.{touched, words_after};
 ghost use Rattle.rendezvous_model.specs.RoundStep.{thread_of};
@@ -13,7 +16,9 @@ ghost use Rattle.ctl_words.specs.Lists.{has_word, word_of};
 ghost use Rattle.ctl_words.specs.Plans.{plan_of, IsSound};
 ghost use Rattle.std.specs.List.{range_with_len};
 ghost use Rattle.ctl_core.specs.Stands.{local_of};
-ghost use Rattle.ctl_core.specs.Moments.{running_of, Fits, owner, unfinished_from, is_poll, waits, rests, is_ready, ready_from, end_in};
+ghost use Rattle.ctl_core.specs.Moments.{running_of, Fits, owner, unfinished_from, is_poll, waits, rests, is_ready};
+ghost use Rattle.ctl_core.specs.Moments.{ready_from};
+ghost use Rattle.uc_rendezvous.specs.Ends.{end_in};
 
 use crate::chains::Chains;
 use crate::looks;
@@ -73,8 +78,8 @@ impl Moment {
         }
     }
 
-    /// Becomes the state in which a rendezvous with this plan begins, in the room that there is, and takes memory only for
-    /// more. It answers want of memory and nothing else; the state means nothing then.
+    /// Becomes the state in which a rendezvous with this plan begins, in the room that there is, and takes memory only
+    /// for more. It answers want of memory and nothing else; the state means nothing then.
     pub fn begin(&mut self, plan: &Plan) -> Result<(), NoMemory>
         requires { IsSound plan.now }
         ensures fits { OnOk result (Fits (plan_of plan.now) self.new) }
@@ -156,7 +161,8 @@ impl Moment {
     /// Fills a table with how each thread came out, by its number.
     pub fn fill_ends(&self, plan: &Plan, ends: &mut ArrayVec<End, 256>)
         requires { IsSound plan.now }
-        ensures { ends.new.items ≡ map (end_in (plan_of plan.now) (running_of self.now).words) (threads_from (plan_of plan.now) 0) }
+        ensures { ends.new.items
+            ≡ map (end_in (plan_of plan.now) (running_of self.now).words) (threads_from (plan_of plan.now) 0) }
     {
         ends.clear();
         'threads: for thread in 0..plan.threads {
@@ -167,7 +173,8 @@ impl Moment {
     /// Fills a table with the running revision of each group.
     pub fn fill_revisions(&self, plan: &Plan, revisions: &mut ArrayVec<u32, 256>)
         requires fits { Fits (plan_of plan.now) self.now }
-        ensures { revisions.new.items ≡ map (λ g. (running_of self.now).words (Rev g)) (range_with_len 0 (plan_of plan.now).groups) }
+        ensures { revisions.new.items
+            ≡ map (λ g. (running_of self.now).words (Rev g)) (range_with_len 0 (plan_of plan.now).groups) }
     {
         revisions.clear();
         'groups: for group in 0..plan.groups() {
@@ -214,8 +221,8 @@ impl Moment {
         }
     }
 
-    /// A step that is no timeout. Most steps of a long wait are polls, which change a count and no more, or those of threads
-    /// that are done.
+    /// A step that is no timeout. Most steps of a long wait are polls, which change a count and no more, or those of
+    /// threads that are done.
     #[inline(always)]
     fn step(&mut self, plan: &Plan, thread: u16) -> What
         requires sound { IsSound plan.now }
@@ -289,8 +296,9 @@ impl Moment {
         self.come_through(plan, thread)
     }
 
-    /// The thread does its operation. Where it has none, a latched NMI comes through once it has left. It is kept apart from
-    /// the events that lead to it, since its operation stays in registers only where the whole of it is one function.
+    /// The thread does its operation. Where it has none, a latched NMI comes through once it has left. It is kept apart
+    /// from the events that lead to it, since its operation stays in registers only where the whole of it is one
+    /// function.
     #[inline(never)]
     fn act(&mut self, plan: &Plan, thread: u16, how: How) -> What
         requires sound { IsSound plan.now }
@@ -315,7 +323,8 @@ impl Moment {
         requires fits { Fits (plan_of plan.now) self.old }
         requires in_range { thread < plan.now.threads }
         ensures item { result ≡ (performs (plan_of plan.now) thread how (running_of self.old) (Some op)).1 }
-        ensures state { running_of self.new ≡ (performs (plan_of plan.now) thread how (running_of self.old) (Some op)).0 }
+        ensures state { running_of self.new
+            ≡ (performs (plan_of plan.now) thread how (running_of self.old) (Some op)).0 }
         ensures fits { Fits (plan_of plan.now) self.new }
     {
         let found = self.apply(plan, op);
@@ -499,8 +508,8 @@ impl Moment {
         }
     }
 
-    /// Does an operation on a word of this thread. The thread is counted anew where the word shows an end now and did not
-    /// before, or the other way round.
+    /// Does an operation on a word of this thread. The thread is counted anew where the word shows an end now and did
+    /// not before, or the other way round.
     #[inline(always)]
     fn apply_of(&mut self, plan: &Plan, thread: u16, op: Op) -> u64
         requires sound { IsSound plan.now }
@@ -588,7 +597,8 @@ impl Moment {
     }
 
     fn is_over(&self, plan: &Plan, thread: u16) -> bool
-        ensures { result ≡ (shows_left (running_of self.now).words thread || shows_withdrawn (plan_of plan.now) (running_of self.now).words thread) }
+        ensures { let words = (running_of self.now).words in
+            result ≡ (shows_left words thread || shows_withdrawn (plan_of plan.now) words thread) }
     {
         looks::is_over(&self.words, plan, thread)
     }
@@ -608,7 +618,8 @@ impl Moment {
 /// Where each thread stands when a rendezvous begins.
 fn fill_openings(stands: &mut Vec<Stand>, plan: &Plan) -> Result<(), NoMemory>
     requires { IsSound plan.now }
-    ensures { OnOk result (map local_of stands.new.items ≡ map (opening (plan_of plan.now)) (threads_from (plan_of plan.now) 0)) }
+    ensures { let plan = plan_of plan.now in
+        OnOk result (map local_of stands.new.items ≡ map (opening plan) (threads_from plan 0)) }
 {
     stands.clear();
     for thread in 0..plan.threads {

@@ -1,10 +1,9 @@
 //! Whether beats are a plan's.
 
 ghost use Rattle.std.specs.Prelude.{◌<◌, ◌↔◌, All, IsTrue};
-ghost use Rattle.rendezvous_model.specs.RoundStep.{thread_of};
 ghost use Rattle.rendezvous_rule.specs.Runs.{BeatInRange};
 
-use rendezvous_steps::{Beat, Event};
+use rendezvous_steps::Beat;
 
 /// Whether each event of the beats is one of the first so many threads.
 pub fn are_in_range(beats: &[Beat], threads: u16) -> bool
@@ -20,15 +19,5 @@ fn is_in_range(beat: Beat, threads: u16) -> bool
         Beat::Step(thread) | Beat::Timeout(thread) | Beat::Nmi(thread) | Beat::Run(thread) => thread
             < threads,
         Beat::Rounds(_) => true,
-    }
-}
-
-/// Whether an event is one of the first so many threads.
-pub fn is_below(event: Event, threads: u16) -> bool
-    ensures { IsTrue result ↔ (thread_of event < threads) }
-{
-    match event {
-        Event::Step(thread) | Event::Timeout(thread) | Event::Nmi(thread) | Event::Run(thread) =>
-            thread < threads,
     }
 }

@@ -7,23 +7,22 @@ ghost use Rattle.rendezvous_model.specs.RoundStep.{thread_of};
 ghost use Rattle.rendezvous_rule.specs.Ran.{events_of, repeated};
 ghost use Rattle.rendezvous_rule.specs.Runs.{BeatInRange};
 ghost use Rattle.ctl_words.specs.Plans.{plan_of, IsSound};
-ghost use Rattle.ctl_core.specs.Cores.{plan_in, moment_in};
-ghost use Rattle.ctl_core.specs.Outcomes.{came_to};
-ghost use Rattle.ctl_core.specs.Playing.{Plays, PlayedTo};
-ghost use Rattle.item_text.specs.Items.{item_line as line_of};
+ghost use Rattle.ctl_core.specs.Cores.{plan_in};
+ghost use Rattle.uc_rendezvous.specs.Outcomes.{came_to};
+ghost use Rattle.ctl_core.specs.Playing.{under_way, Plays, PlayedTo};
+ghost use Rattle.rendezvous_steps.specs.ItemText.{item_line as line_of};
 ghost use Rattle.play_laws.proofs.Exist.{always_runs as runs_always, ran_grows};
 
 use crate::cores::Core;
 use crate::item_lines::compose;
 use crate::moments::Moment;
-use crate::outcomes::Outcome;
-use crate::runs::{Rendezvous, RunAnswer};
 use arrayvec::ArrayVec;
 use ctl_words::Plan;
 use rendezvous_steps::{Beat, Event};
 use std::alloc::Global;
 use std::mem;
 use uc_io::{Sink, SinkFailed};
+use uc_rendezvous::{Outcome, Rendezvous, RunAnswer};
 
 /// Plays schedules: the events of the beats in order, each item by a line in one write, up to the first moment in which
 /// no thread is unfinished. After the first step it takes no memory.
@@ -52,7 +51,8 @@ impl Scheduled {
     ) -> Result<(), RunAnswer>
         requires sound { IsSound plan.now }
         requires in_range { All (BeatInRange plan.now.threads) beats.now }
-        ensures played { PlayedTo S.stands S.faults (plan_of plan.now) beats.now out.old out.new (came_to outcome.new result) }
+        ensures played { PlayedTo S.stands S.faults (plan_of plan.now) beats.now
+            out.old out.new (came_to outcome.new result) }
         ensures later { S.faults out.old ≤ S.faults out.new }
         ensures still { OnOk result (S.faults out.new ≡ S.faults out.old) }
     {
@@ -96,7 +96,7 @@ impl Rendezvous for Scheduled {
 fn play_beats<S: Sink>(core: &mut Core<'_>, beats: &[Beat], out: &mut S) -> Result<(), SinkFailed>
     requires { All (BeatInRange (plan_in core.old).threads) beats.now }
     ensures plays { Plays S.stands S.faults (plan_in core.old)
-        (record { moment = moment_in core.old; sink = out.old }) (record { moment = moment_in core.new; sink = out.new })
+        (under_way core.old out.old) (under_way core.new out.new)
         (events_of (plan_in core.old) beats.now) result }
     ensures plan { plan_in core.new ≡ plan_in core.old }
 {
@@ -112,7 +112,7 @@ fn play_beats<S: Sink>(core: &mut Core<'_>, beats: &[Beat], out: &mut S) -> Resu
 fn play_beat<S: Sink>(core: &mut Core<'_>, beat: Beat, out: &mut S) -> Result<(), SinkFailed>
     requires { BeatInRange (plan_in core.old).threads beat }
     ensures plays { Plays S.stands S.faults (plan_in core.old)
-        (record { moment = moment_in core.old; sink = out.old }) (record { moment = moment_in core.new; sink = out.new })
+        (under_way core.old out.old) (under_way core.new out.new)
         (events_of (plan_in core.old) (beat ∷ [])) result }
     ensures plan { plan_in core.new ≡ plan_in core.old }
 {
@@ -133,7 +133,7 @@ fn play_beat<S: Sink>(core: &mut Core<'_>, beat: Beat, out: &mut S) -> Result<()
 /// Plays so many rounds.
 fn play_rounds<S: Sink>(core: &mut Core<'_>, count: u16, out: &mut S) -> Result<(), SinkFailed>
     ensures plays { Plays S.stands S.faults (plan_in core.old)
-        (record { moment = moment_in core.old; sink = out.old }) (record { moment = moment_in core.new; sink = out.new })
+        (under_way core.old out.old) (under_way core.new out.new)
         (repeated count (map StepOf (threads_from (plan_in core.old) 0)) []) result }
     ensures plan { plan_in core.new ≡ plan_in core.old }
 {
@@ -149,7 +149,7 @@ fn play_rounds<S: Sink>(core: &mut Core<'_>, count: u16, out: &mut S) -> Result<
 /// Plays a step of each thread in ascending order. All their lines are composed in one buffer.
 fn play_round<S: Sink>(core: &mut Core<'_>, out: &mut S) -> Result<(), SinkFailed>
     ensures plays { Plays S.stands S.faults (plan_in core.old)
-        (record { moment = moment_in core.old; sink = out.old }) (record { moment = moment_in core.new; sink = out.new })
+        (under_way core.old out.old) (under_way core.new out.new)
         (map StepOf (threads_from (plan_in core.old) 0)) result }
     ensures plan { plan_in core.new ≡ plan_in core.old }
 {
@@ -171,7 +171,7 @@ fn play_event<S: Sink>(
 ) -> Result<(), SinkFailed>
     requires { thread_of event < (plan_in core.old).threads }
     ensures plays { Plays S.stands S.faults (plan_in core.old)
-        (record { moment = moment_in core.old; sink = out.old }) (record { moment = moment_in core.new; sink = out.new })
+        (under_way core.old out.old) (under_way core.new out.new)
         (event ∷ []) result }
     ensures plan { plan_in core.new ≡ plan_in core.old }
 {

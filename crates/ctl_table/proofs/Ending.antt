@@ -16,7 +16,7 @@ use Rattle.play_laws.proofs.Unlisted.{ends_are_unlisted}
 use Rattle.ctl_words.specs.declared.plans.Plan.{Plan as Tables}
 use Rattle.ctl_words.specs.Plans.{plan_of, IsSound}
 use Rattle.ctl_words.proofs.TablesEnd.{padded}
-use Rattle.ctl_core.proofs.Shown.{decide_shown}
+use Rattle.uc_rendezvous.proofs.Shown.{decide_shown}
 use Rattle.atomic_table.specs.Table.{Me, Final, Seen}
 use Rattle.ctl_table.specs.declared.exact_outcomes.ExactOutcome.{ExactOutcome}
 use Rattle.ctl_table.specs.declared.bays.Bay.{Bay}

@@ -1,6 +1,6 @@
--- What holds of the table between any two operations: the words and the threads' states meet the rule of the rendezvous,
--- and each post's place says where its thread stands. Views are numbered in the order in which posts were given, so a
--- thread's view has the thread's number.
+-- What holds of the table between any two operations: the words and the threads' states meet the rule of the
+-- rendezvous, and each post's place says where its thread stands. Views are numbered in the order in which posts were
+-- given, so a thread's view has the thread's number.
 use Rattle.std.specs.Prelude.{◌≡◌, ℕ, ◌+◌, ◌≤◌, true, length}
 use mathlib.Core.Option.{some}
 use lib.ListN.{get_elem?}

@@ -7,7 +7,7 @@ use Rattle.rendezvous_steps.specs.declared.operations.Word.TheVariants.{Decide, 
 use Rattle.rendezvous_steps.specs.declared.ends.End.{End}
 use Rattle.rendezvous_steps.specs.Plan.{Plan, threads_from}
 use Rattle.ctl_words.specs.Plans.{plan_of}
-use Rattle.ctl_core.specs.Moments.{end_in}
+use Rattle.uc_rendezvous.specs.Ends.{end_in}
 use Rattle.ctl_table.specs.declared.exact_outcomes.ExactOutcome.{ExactOutcome}
 use Rattle.ctl_table.specs.declared.last.Last.{Last}
 use Rattle.ctl_table.specs.Words.{words_of}

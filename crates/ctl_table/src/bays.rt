@@ -20,8 +20,8 @@ use std::alloc::Global;
 use uc_bytes::NoMemory;
 
 /// The control words of one plan. Posts step on them through a `&Bay`, each from whatever thread holds it. The plan is
-/// in a box, since each of its tables has 256 places: it is copied once, and let go when the bay is closed. What is kept
-/// then, `exact_plan` and `outcome`, has its memory from the beginning.
+/// in a box, since each of its tables has 256 places: it is copied once, and let go when the bay is closed. What is
+/// kept then, `exact_plan` and `outcome`, has its memory from the beginning.
 #[derive(Drop)]
 pub struct Bay {
     pub(crate) plan: Box<Plan>,

@@ -5,8 +5,8 @@ ghost use Rattle.ctl_table.specs.Exact.{exact_plan_of, exact_outcome_of};
 
 use crate::exact_outcomes::ExactOutcome;
 use crate::exact_plans::ExactPlan;
-use ctl_core::Outcome;
 use ctl_words::Plan;
+use uc_rendezvous::Outcome;
 
 /// What a bay came to. Only `Bay::close` makes one. It has no more memory than its threads and groups need, since
 /// whoever runs many loads keeps one of each.
@@ -21,7 +21,7 @@ pub struct Closed {
 impl Closed {
     ghost use Rattle.std.specs.Prelude.{◌≡◌};
     ghost use Rattle.ctl_words.specs.Plans.{plan_of};
-    ghost use Rattle.ctl_core.specs.Outcomes.{outcome_of};
+    ghost use Rattle.uc_rendezvous.specs.Outcomes.{outcome_of};
     ghost use Rattle.ctl_table.specs.Closes.{closed_plan, closed_outcome, was_late};
 
     /// Makes a plan the bay's, where it stands. It takes no memory.

@@ -1,11 +1,11 @@
 //! An outcome in tables of exact length.
 
 use crate::exact_tables::ExactTable;
-use ctl_core::Outcome;
 use ctl_words::Plan;
 use rendezvous_steps::End;
 use std::alloc::Global;
 use uc_bytes::NoMemory;
+use uc_rendezvous::Outcome;
 
 /// What is left of a rendezvous, in no more memory than its threads and groups need. `ends` goes by thread, `revs` by
 /// group.
@@ -19,7 +19,7 @@ pub struct ExactOutcome {
 impl ExactOutcome {
     ghost use Rattle.std.specs.Prelude.{◌≡◌, IfOk};
     ghost use Rattle.ctl_words.specs.Plans.{plan_of};
-    ghost use Rattle.ctl_core.specs.Outcomes.{outcome_of};
+    ghost use Rattle.uc_rendezvous.specs.Outcomes.{outcome_of};
     ghost use Rattle.ctl_table.specs.Exact.{exact_outcome_of, HasRoom};
 
     /// The outcome of a rendezvous of no thread, with room for that of a plan. It answers want of memory and nothing

@@ -5,7 +5,7 @@ ghost use Rattle.std.specs.Mem.Slots.{IsFull, slots_items, slots_len};
 ghost use Rattle.rendezvous_steps.specs.declared.operations.Word.TheVariants.{Mode, Rev};
 ghost use Rattle.ctl_words.specs.Plans.{plan_of, IsSound};
 ghost use Rattle.ctl_words.specs.Places.{word_count, is_word};
-ghost use Rattle.ctl_core.specs.Moments.{end_in};
+ghost use Rattle.uc_rendezvous.specs.Ends.{end_in};
 ghost use Rattle.ctl_table.specs.Words.{words_of, RevisionsAre};
 
 use crate::exact_outcomes::ExactOutcome;

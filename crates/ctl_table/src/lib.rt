@@ -1,12 +1,13 @@
 //! The rendezvous on shared atomic words, for threads that really run.
 //!
-//! A `Bay` has the control words of one plan in an `atomic_table`. A `Post` is a thread's place at it, and whoever holds
-//! the post steps it: one step is one atomic operation on one word, the one that the step table names for the thread's
-//! state. It takes no memory, waits for nobody and tries no exchange again.
+//! A `Bay` has the control words of one plan in an `atomic_table`. A `Post` is a thread's place at it, and whoever
+//! holds the post steps it: one step is one atomic operation on one word, the one that the step table names for the
+//! thread's state. It takes no memory, waits for nobody and tries no exchange again.
 //!
 //! Between any two operations, of whatever threads, the words and the posts meet the rule of the rendezvous
 //! (`specs/Holds`). That a step keeps the rule, and is a step of the model, is one law on the step table, cited and not
-//! proved again here; no step is told apart by its phase. When all posts are joined, `close` shows what the words came to.
+//! proved again here; no step is told apart by its phase. When all posts are joined, `close` shows what the words came
+//! to.
 //!
 //! - `bays`: the bay, and its making, splits, joins and end. `steps`: one step.
 //! - `posts`: a post. `standings`: what the table knows of one, which has no bytes.
@@ -32,12 +33,9 @@ mod steps;
 
 pub use bays::Bay;
 pub use closed::Closed;
-pub use ctl_core::Outcome;
 pub use ctl_words::Plan;
 pub use laws::each_turn_keeps_the_table;
 pub use posts::Post;
 pub use rendezvous_steps::{End, Local, Phase, ThreadResult, What};
 pub use seen::Seen;
-
-#[cfg(test)]
-mod tests;
+pub use uc_rendezvous::Outcome;

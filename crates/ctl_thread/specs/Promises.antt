@@ -1,7 +1,10 @@
 -- What the table promises, in the words of a load.
 use Rattle.std.specs.Prelude.{ℕ, ◌+◌, ◌==◌, ◌&&◌, ◌||◌, Bool, true, false}
 use Rattle.rendezvous_steps.specs.declared.steps.Phase.{Phase}
-use Rattle.rendezvous_steps.specs.declared.steps.Phase.TheVariants.{Outside, Kicking, OfflineWait, Arriving, Deciding, Waiting, Reading, Beginning, Writing, Checking, Reporting, Freeing, SiblingWait, SiblingCheck, SiblingCopy, Withdrawing, Releasing, Leaving}
+use Rattle.rendezvous_steps.specs.declared.steps.Phase.TheVariants.{Outside, Kicking, OfflineWait, Arriving, Deciding}
+use Rattle.rendezvous_steps.specs.declared.steps.Phase.TheVariants.{Waiting, Reading, Beginning, Writing, Checking}
+use Rattle.rendezvous_steps.specs.declared.steps.Phase.TheVariants.{Reporting, Freeing, SiblingWait, SiblingCheck}
+use Rattle.rendezvous_steps.specs.declared.steps.Phase.TheVariants.{SiblingCopy, Withdrawing, Releasing, Leaving}
 use Rattle.rendezvous_steps.specs.declared.operations.Word.{Word}
 use Rattle.rendezvous_steps.specs.declared.operations.Word.TheVariants as word
 use Rattle.rendezvous_steps.specs.declared.items.What.{What}

@@ -2,7 +2,8 @@
 
 ghost use Rattle.std.specs.Prelude.{◌≡◌};
 ghost use Rattle.rendezvous_steps.specs.StepTable as table;
-ghost use Rattle.rendezvous_steps.specs.declared.steps.Phase.TheVariants.{Outside, Kicking, OfflineWait, Arriving, Deciding, Waiting};
+ghost use Rattle.rendezvous_steps.specs.declared.steps.Phase.TheVariants.{Outside, Kicking, OfflineWait, Arriving};
+ghost use Rattle.rendezvous_steps.specs.declared.steps.Phase.TheVariants.{Deciding, Waiting};
 ghost use Rattle.ctl_words.specs.Plans.{plan_of};
 
 use crate::moves::{go_path, kick_at, loop_at, polled, to, wait_in};

@@ -10,7 +10,8 @@ ghost use Rattle.rendezvous_steps.specs.Plan.{Plan, Sound, is_primary};
 ghost use Rattle.ctl_words.specs.Places.{is_word};
 ghost use Rattle.rendezvous_steps.specs.Words.{touched, written};
 ghost use Rattle.rendezvous_steps.specs.StepTable.{operation, after};
-ghost use Rattle.ctl_thread.specs.Promises.{is_before_decision, is_after_go, is_leaving, is_of_primary, may_touch, OnDecide, OnRevision, is_decision_of, gives_up};
+ghost use Rattle.ctl_thread.specs.Promises.{is_before_decision, is_after_go, is_leaving, is_of_primary, may_touch};
+ghost use Rattle.ctl_thread.specs.Promises.{OnDecide, OnRevision, is_decision_of, gives_up};
 
 /// A thread touches the counts and the decision, its own words and those of its group. It touches another thread's
 /// control word only where it frees that thread, and another's kick only where it makes it or takes it back.
@@ -27,8 +28,8 @@ pub fn decides_once()
         → IfSome (operation plan t local how) (λ op. OnDecide (touched op) (IsTrue (is_decision_of t (written op 0)))) }
 {}
 
-/// Only an operation on the decision takes a thread out of the gathering: onto the go path where it leaves go there, and
-/// on the way out where it leaves a decision.
+/// Only an operation on the decision takes a thread out of the gathering: onto the go path where it leaves go there,
+/// and on the way out where it leaves a decision.
 pub fn leaves_the_gathering_by_the_decision()
     ensures go { (plan : Plan) (t : ℕ) (local : Local) (how : How) (found : ℕ)
         → IsTrue (not (is_after_go local.phase) && is_after_go (after plan t local how found).0.phase)
@@ -54,7 +55,8 @@ pub fn steps_never_give_up()
 
 /// A thread stays within its plan: the words that it touches are the plan's, and its loops come to the plan's threads.
 pub fn stays_in_the_plan()
-    ensures words { (plan : Plan) (t : ℕ) (local : Local) (how : How) → Sound plan → t < plan.threads → local.at < plan.threads
+    ensures words { (plan : Plan) (t : ℕ) (local : Local) (how : How) →
+        Sound plan → t < plan.threads → local.at < plan.threads
         → IfSome (operation plan t local how) (λ op. IsTrue (is_word plan (touched op))) }
     ensures loops { (plan : Plan) (t : ℕ) (local : Local) (how : How) (found : ℕ) → local.at < plan.threads
         → (after plan t local how found).0.at < plan.threads }

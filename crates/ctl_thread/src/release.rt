@@ -4,7 +4,11 @@ ghost use Rattle.std.specs.Prelude.{◌≡◌, ◌==◌};
 ghost use Rattle.rendezvous_steps.specs.StepTable as table;
 ghost use Rattle.rendezvous_steps.specs.Plan.{offer_or_rev0};
 ghost use Rattle.rendezvous_steps.specs.StepTable.{exceeds};
-ghost use Rattle.rendezvous_steps.specs.declared.steps.Phase.TheVariants.{Reading, Beginning, Writing, Checking, Reporting, Freeing, SiblingWait, SiblingCheck, SiblingCopy, Withdrawing, Releasing, OfflineCount, OfflineHold, Leaving};
+ghost use Rattle.rendezvous_steps.specs.declared.steps.Phase.TheVariants.{Reading, Beginning, Writing, Checking};
+ghost use Rattle.rendezvous_steps.specs.declared.steps.Phase.TheVariants.{Reporting, Freeing, SiblingWait};
+ghost use Rattle.rendezvous_steps.specs.declared.steps.Phase.TheVariants.{SiblingCheck, SiblingCopy, Withdrawing};
+ghost use Rattle.rendezvous_steps.specs.declared.steps.Phase.TheVariants.{Releasing, OfflineCount, OfflineHold};
+ghost use Rattle.rendezvous_steps.specs.declared.steps.Phase.TheVariants.{Leaving};
 ghost use Rattle.ctl_words.specs.Plans.{plan_of};
 
 use crate::moves::{free_at, polled, to, wait_in, with_result, withdraw_at};

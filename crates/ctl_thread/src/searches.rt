@@ -32,8 +32,8 @@ impl Turn<'_> {
         }
     }
 
-    /// The first other thread of the thread's group that takes part. A primary is the lowest of its group, so for it that is
-    /// the next.
+    /// The first other thread of the thread's group that takes part. A primary is the lowest of its group, so for it
+    /// that is the next.
     #[inline(always)]
     pub fn first_sibling(&self) -> Option<u16>
         ensures { result ≡ sibling_from (plan_of self.now.plan.now) self.now.thread 0 }
@@ -46,8 +46,8 @@ impl Turn<'_> {
         }
     }
 
-    /// The first other thread of the thread's group that takes part and comes after the one that the loop is at, which is
-    /// one of the group too.
+    /// The first other thread of the thread's group that takes part and comes after the one that the loop is at, which
+    /// is one of the group too.
     #[inline(always)]
     pub fn next_sibling(&self) -> Option<u16>
         ensures { result ≡ sibling_from (plan_of self.now.plan.now) self.now.thread (self.now.local.now.at + 1) }
@@ -83,8 +83,8 @@ fn first_offline(plan: &Plan, start: u32) -> Option<u16>
     None
 }
 
-/// The first other thread of `of`'s group from `start` on that takes part. Where 16 threads are of other groups, they are
-/// passed over at once.
+/// The first other thread of `of`'s group from `start` on that takes part. Where 16 threads are of other groups, they
+/// are passed over at once.
 #[tactic(auto, using(crate::proofs::Ascending::sibling_search))]
 fn first_sibling(plan: &Plan, of: u16, start: u32) -> Option<u16>
     ensures { result ≡ sibling_from (plan_of plan.now) of start }
@@ -104,7 +104,9 @@ fn first_sibling(plan: &Plan, of: u16, start: u32) -> Option<u16>
 /// The first sibling of `of` that is one of 16 threads.
 fn sibling_near(plan: &Plan, of: u16, from: u32) -> Option<u16>
     requires { from < plan.now.threads }
-    ensures { MatchOption result (sibling_from (plan_of plan.now) of from ≡ sibling_from (plan_of plan.now) of (from + 16)) (λ sibling. sibling_from (plan_of plan.now) of from ≡ Some sibling) }
+    ensures { MatchOption result
+        (sibling_from (plan_of plan.now) of from ≡ sibling_from (plan_of plan.now) of (from + 16))
+        (λ sibling. sibling_from (plan_of plan.now) of from ≡ Some sibling) }
 {
     if has_group_near(plan, plan.group_of(of), from) {
         sibling_among(plan, of, from)
@@ -117,7 +119,9 @@ fn sibling_near(plan: &Plan, of: u16, from: u32) -> Option<u16>
 #[tactic(auto, using(crate::proofs::Ascending::sibling_search))]
 fn sibling_among(plan: &Plan, of: u16, from: u32) -> Option<u16>
     requires { from < plan.now.threads }
-    ensures { MatchOption result (sibling_from (plan_of plan.now) of from ≡ sibling_from (plan_of plan.now) of (from + 16)) (λ sibling. sibling_from (plan_of plan.now) of from ≡ Some sibling) }
+    ensures { MatchOption result
+        (sibling_from (plan_of plan.now) of from ≡ sibling_from (plan_of plan.now) of (from + 16))
+        (λ sibling. sibling_from (plan_of plan.now) of from ≡ Some sibling) }
 {
     for thread in from..u32::from(plan.threads).min(from + 16) {
         let thread = thread as u16;

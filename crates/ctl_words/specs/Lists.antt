@@ -1,7 +1,8 @@
 -- Control words in plain lists.
 use Rattle.std.specs.Prelude.{ℕ, Bool, true, List, length, nat_lt, slice_index, slice_set}
 use Rattle.rendezvous_steps.specs.declared.operations.Word.{Word}
-use Rattle.rendezvous_steps.specs.declared.operations.Word.TheVariants.{Arrive, OffIn, Decide, Mode, Ctrl, Nmi, Rev, Res}
+use Rattle.rendezvous_steps.specs.declared.operations.Word.TheVariants.{Arrive, OffIn, Decide, Mode, Ctrl, Nmi, Rev}
+use Rattle.rendezvous_steps.specs.declared.operations.Word.TheVariants.{Res}
 
 pub record Lists : Type 0 where
   pub arrive : ℕ

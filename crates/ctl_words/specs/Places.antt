@@ -2,7 +2,8 @@
 -- of Mode, Ctrl and Nmi, and then G words of each of Rev and Res.
 use Rattle.std.specs.Prelude.{ℕ, ◌+◌, ◌*◌, Bool, true, nat_lt}
 use Rattle.rendezvous_steps.specs.declared.operations.Word.{Word}
-use Rattle.rendezvous_steps.specs.declared.operations.Word.TheVariants.{Arrive, OffIn, Decide, Mode, Ctrl, Nmi, Rev, Res}
+use Rattle.rendezvous_steps.specs.declared.operations.Word.TheVariants.{Arrive, OffIn, Decide, Mode, Ctrl, Nmi, Rev}
+use Rattle.rendezvous_steps.specs.declared.operations.Word.TheVariants.{Res}
 use Rattle.rendezvous_steps.specs.Plan.{Plan}
 
 -- w is one of the plan's words

@@ -4,7 +4,8 @@ ghost use Rattle.std.specs.Prelude.{◌≡◌, ◌+◌, ◌*◌, ◌<◌, ◌≤
 ghost use Rattle.rendezvous_steps.specs.declared.steps.Kind.TheVariants.{Online};
 ghost use Rattle.rendezvous_steps.specs.Plan.{online_count, offline_count};
 ghost use Rattle.rendezvous_steps.specs.declared.operations.Word.{Word as WordName};
-ghost use Rattle.ctl_words.specs.Plans.{plan_of, TablesFit, ThreadFits, ThreadsFit, OfferFits, GroupFits, GroupsFit, IsSound};
+ghost use Rattle.ctl_words.specs.Plans.{plan_of, TablesFit, ThreadFits, ThreadsFit, OfferFits, GroupFits, GroupsFit};
+ghost use Rattle.ctl_words.specs.Plans.{IsSound};
 ghost use Rattle.ctl_words.specs.Places.{is_word, place_of, word_count};
 
 use arrayvec::ArrayVec;
@@ -198,7 +199,8 @@ impl Plan {
         requires known { IsTrue (is_word (plan_of self.now) word) }
         ensures place { result ≡ place_of (plan_of self.now) word }
         ensures in_table { result < word_count (plan_of self.now) }
-        ensures apart { (other : WordName) → IsTrue (is_word (plan_of self.now) other) → place_of (plan_of self.now) other ≡ result → other ≡ word }
+        ensures apart { (other : WordName) → IsTrue (is_word (plan_of self.now) other) →
+            place_of (plan_of self.now) other ≡ result → other ≡ word }
     {
         let threads = u32::from(self.threads);
         let groups = u32::from(self.groups());

@@ -12,7 +12,7 @@ use Rattle.file_reads.specs.Reads.{Read}
 use Rattle.file_reads.proofs.Outcomes.{held_one, held_cons}
 use Rattle.report_text.specs.Lines.{topology_line}
 use Rattle.rendezvous_rule.specs.Runs.{RunOf, AlwaysRuns}
-use Rattle.item_text.specs.Items.{item_line}
+use Rattle.rendezvous_steps.specs.ItemText.{item_line}
 use Rattle.script_text.specs.declared.fault.ScriptCause.{ScriptCause}
 use Rattle.script_text.specs.declared.fault.ScriptCause.TheVariants.{TooLong}
 use Rattle.script_text.specs.Stated.{Stated}

@@ -14,9 +14,9 @@ use Rattle.rendezvous_model.specs.Round.{Out, Left, Halted, Withdrawn, Absent, S
 use Rattle.rendezvous_model.specs.Outcome.{decide_of}
 use Rattle.rendezvous_rule.specs.View.{Views, views, arrived_in, write_in, is_timeout}
 use Rattle.rendezvous_rule.specs.Seen.{seen, place_seen, revision_in}
-use Rattle.rendezvous_rule.specs.Knows.{Knows, OnlineKnows, OfflineKnows, Ends, report_by, result_for}
+use Rattle.rendezvous_rule.specs.Knows.{Knows, OnlineKnows, OfflineKnows, Ends, primary_result, result_for}
 use Rattle.rendezvous_rule.specs.Rule.{RuleBy}
-use Rattle.rendezvous_rule.specs.Ran.{revision_after_go, primary_result}
+use Rattle.rendezvous_rule.specs.Ran.{revision_after_go}
 use Rattle.rule_laws.proofs.Frame.{equal_numbers, same_numbers}
 use Rattle.rule_laws.proofs.Search.{online_in_range}
 use Rattle.rule_laws.proofs.Assemble.{number_back, led}
@@ -64,12 +64,6 @@ not_going DroppedByKick e = refl
 not_going (DroppedBy t) e = refl
 not_going Going e = cc
 not_going Gathering e = cc
-
--- what a group reports is what its primary leaves with
-pub report_is : (offer : Option ℕ) (refuses : Bool) → report_by offer refuses ≡ primary_result offer refuses
-report_is None refuses = refl
-report_is (Some offer) true = refl
-report_is (Some offer) false = refl
 
 module _ (plan : Plan) (m : Running) (first : Bool) (stage : Stage) (sound : Sound plan) (padded : Padded plan)
     (rule : RuleBy plan (families m.words) m.locals first stage) where

@@ -16,3 +16,4 @@ pub mod Ends
 pub mod Unlisted
 pub mod Patient
 pub mod Exist
+pub mod Lacking

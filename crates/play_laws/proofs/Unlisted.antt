@@ -26,7 +26,7 @@ use Rattle.rule_laws.proofs.Assemble.{shown_is_seen}
 use Rattle.rule_laws.proofs.Facts.{going_undropped}
 use Rattle.rule_laws.proofs.Safety.{ruled_is_safe}
 use Rattle.play_laws.specs.Outcomes.{EndedLaw}
-use Rattle.play_laws.proofs.Ends.{OnlineEnd, after_go, after_drop, in_halt, OfflineEnd, freed, held, withdrawn, went_by, dropped_by, kick_by, thread_by, not_going, report_is, online_end, offline_end, absent_end, decided, withdrawn_dropped, withdrawn_away, revision_went}
+use Rattle.play_laws.proofs.Ends.{OnlineEnd, after_go, after_drop, in_halt, OfflineEnd, freed, held, withdrawn, went_by, dropped_by, kick_by, thread_by, not_going, online_end, offline_end, absent_end, decided, withdrawn_dropped, withdrawn_away, revision_went}
 
 no : {A : Type 0} (b : Bool) → b ≡ false → b ≡ true → A
 no b off on = absurd (true≢false (sym on ∙ off))
@@ -149,9 +149,8 @@ module _ (plan : Plan) (m : Running) (first : Bool) (stage : Stage) (sound : Sou
     primary_by t within leads going (after_go e place) =
         end_is t within
         ∙ (ap end_of place
-        ∙ (ap (λ b. ends.Left (if b then report_of plan (plan.group t) else okay_for (report_of plan (plan.group t))))
-        leads
-        ∙ ap ends.Left (report_is (plan.offer (plan.group t)) (plan.refuse (plan.group t)))))
+        ∙ ap (λ b. ends.Left (if b then report_of plan (plan.group t) else okay_for (report_of plan (plan.group t))))
+        leads)
     primary_by t within leads going (after_drop dropped place) = no _ (going_undropped stage going) dropped
     primary_by t within leads going (in_halt e follows place here) = no _ follows leads
 
@@ -163,9 +162,8 @@ module _ (plan : Plan) (m : Running) (first : Bool) (stage : Stage) (sound : Sou
     sibling_by t within follows going (after_go e place) =
         inr (end_is t within
         ∙ (ap end_of place
-        ∙ (ap (λ b. ends.Left (if b then report_of plan (plan.group t) else okay_for (report_of plan (plan.group t))))
-        follows
-        ∙ ap (λ x. ends.Left (okay_for x)) (report_is (plan.offer (plan.group t)) (plan.refuse (plan.group t))))))
+        ∙ ap (λ b. ends.Left (if b then report_of plan (plan.group t) else okay_for (report_of plan (plan.group t))))
+        follows))
     sibling_by t within follows going (after_drop dropped place) = no _ (going_undropped stage going) dropped
     sibling_by t within follows going (in_halt e f place here) = inl (end_is t within ∙ ap end_of place)
 

@@ -1,5 +1,5 @@
--- The law on every event: from a moment that meets the rule, where an NMI is latched only for a thread that came into the
--- handler, each event leads to one again, and its item is a step of the model between the states that these show.
+-- The law on every event: from a moment that meets the rule, where an NMI is latched only for a thread that came into
+-- the handler, each event leads to one again, and its item is a step of the model between the states that these show.
 use Rattle.std.specs.Prelude.{◌≡◌, ℕ, true}
 use Rattle.rendezvous_steps.specs.declared.items.What.{What}
 use Rattle.rendezvous_steps.specs.declared.items.Event.{Event}

@@ -3,3 +3,4 @@ pub mod Runs
 pub mod Stuck
 pub mod Outcomes
 pub mod Patient
+pub mod Needed

@@ -3,8 +3,8 @@
 ghost use Rattle.play_laws.specs.Outcomes.{EndedLaw};
 ghost use Rattle.play_laws.specs.Patient.{InTimeIsDone, PatientIsDone};
 
-/// Where the rule holds and each thread has come to its last phase, the outcome is one that a run may have. Where the run
-/// is not late, it decided to go on and no thread halted.
+/// Where the rule holds and each thread has come to its last phase, the outcome is one that a run may have. Where the
+/// run is not late, it decided to go on and no thread halted.
 pub fn the_end_is_unlisted()
     ensures { EndedLaw }
 {}

@@ -14,7 +14,8 @@ inside_after inside (what.Leave result) = false
 inside_after inside item = inside
 
 abbrev pub has_entered : ℕ → List Item → Bool
-has_entered t items = fold (λ inside item. if item.thread == t then inside_after inside item.what else inside) false items
+has_entered t items =
+    fold (λ inside item. if item.thread == t then inside_after inside item.what else inside) false items
 
 -- A group is in its write from its Begin until its Report.
 

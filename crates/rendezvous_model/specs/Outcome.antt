@@ -4,7 +4,8 @@ use Rattle.std.specs.List.{range_with_len}
 use Rattle.rendezvous_steps.specs.declared.ends.End.{End}
 use Rattle.rendezvous_steps.specs.declared.ends.End.TheVariants as ends
 use Rattle.rendezvous_steps.specs.Plan.{Plan, threads_from}
-use Rattle.rendezvous_model.specs.Round.{Place, Out, In, Left, Halted, Withdrawn, Absent, Stage, Gathering, Going, DroppedByKick, DroppedBy, State}
+use Rattle.rendezvous_model.specs.Round.{Place, Out, In, Left, Halted, Withdrawn, Absent, Stage, Gathering, Going}
+use Rattle.rendezvous_model.specs.Round.{DroppedByKick, DroppedBy, State}
 
 pub record Outcome : Type 0 where
   pub decide : ℕ

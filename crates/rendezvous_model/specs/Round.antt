@@ -1,14 +1,14 @@
--- The model of a rendezvous: where each thread is, which threads were kicked, arrived and were freed, one stage for all,
--- and for each group a place and a revision. Its state has no word, no phase, no counter and no poll. Sets of threads are
--- tests on their numbers, and so is the decider, which is nobody or one thread.
+-- The model of a rendezvous: where each thread is, which threads were kicked, arrived and were freed, one stage for
+-- all, and for each group a place and a revision. Its state has no word, no phase, no counter and no poll. Sets of
+-- threads are tests on their numbers, and so is the decider, which is nobody or one thread.
 use Rattle.std.specs.Prelude.{ℕ, Bool, true, false, ◌&&◌, not, ◌==◌, count_by}
 use Rattle.rendezvous_steps.specs.declared.steps.Kind.{Kind}
 use Rattle.rendezvous_steps.specs.declared.steps.Kind.TheVariants.{Absent as KindAbsent}
 use Rattle.rendezvous_steps.specs.declared.steps.ThreadResult.{ThreadResult}
 use Rattle.rendezvous_steps.specs.Plan.{Plan, is_online, is_offline, threads_from}
 
--- where a thread is: it has not entered the handler, is in it, left with a result, halted in it, was withdrawn before it
--- came, or takes no part
+-- where a thread is: it has not entered the handler, is in it, left with a result, halted in it, was withdrawn before
+-- it came, or takes no part
 pub data Place : Type 0 where
   Out : Place
   In : Place

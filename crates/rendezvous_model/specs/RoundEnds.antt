@@ -1,4 +1,5 @@
--- The steps of the model by which threads leave, halt, wait and run ordinary code: the condition of each and its change.
+-- The steps of the model by which threads leave, halt, wait and run ordinary code: the condition of each and its
+-- change.
 use Rattle.std.specs.Prelude.{◌≡◌, ℕ, Bool, true, false, ◌&&◌, ◌||◌, not, ◌==◌, Option, Some, None}
 use Rattle.rendezvous_steps.specs.declared.steps.Kind.{Kind}
 use Rattle.rendezvous_steps.specs.declared.steps.Kind.TheVariants.{Online, Offline}
@@ -6,7 +7,9 @@ use Rattle.rendezvous_steps.specs.declared.steps.ThreadResult.{ThreadResult}
 use Rattle.rendezvous_steps.specs.declared.steps.ThreadResult.TheVariants as results
 use Rattle.rendezvous_steps.specs.Plan.{Plan, is_primary, is_sibling}
 use Rattle.rendezvous_steps.specs.Events.{put}
-use Rattle.rendezvous_model.specs.Round.{Place, Out, In, Left, Halted, Withdrawn, Absent, Stage, Gathering, Going, GroupPlace, Reported, State, Cause, Step, Timeout, Nmi, Run, is_out, is_halted, is_withdrawn, has_left, is_held, is_going, is_dropped}
+use Rattle.rendezvous_model.specs.Round.{Place, Out, In, Left, Halted, Withdrawn, Absent, Stage, Gathering, Going}
+use Rattle.rendezvous_model.specs.Round.{GroupPlace, Reported, State, Cause, Step, Timeout, Nmi, Run, is_out, is_halted}
+use Rattle.rendezvous_model.specs.Round.{is_withdrawn, has_left, is_held, is_going, is_dropped}
 
 -- It leaves, in one of four ways.
 
@@ -40,7 +43,8 @@ pub record LeavesAfterDrop (plan : Plan) (t : ℕ) (x : ThreadResult) (before : 
   pub dropped : is_dropped before.stage ≡ true
   pub has_arrived : (before.arrived t || (t == 0)) ≡ true
   pub zero_last :
-      t ≡ 0 → (k : ℕ) → plan.kind k ≡ Offline → (before.freed k || is_halted (before.place k) || is_withdrawn (before.place k)) ≡ true
+      t ≡ 0 → (k : ℕ) → plan.kind k ≡ Offline →
+      (before.freed k || is_halted (before.place k) || is_withdrawn (before.place k)) ≡ true
   pub result : x ≡ results.Timeout
 
 -- an Offline thread, once it is freed

@@ -1,13 +1,16 @@
 -- The steps of the model up to the frees, item by item: the condition of each and its change. What the equation on the
 -- state afterwards does not name stays as it was.
-use Rattle.std.specs.Prelude.{◌≡◌, ◌≢◌, ◌⊎◌, ℕ, ◌<◌, Bool, true, false, ◌&&◌, ◌==◌, if◌then◌else◌, Option, Some, None, is_some}
+use Rattle.std.specs.Prelude.{◌≡◌, ◌≢◌, ◌⊎◌, ℕ, ◌<◌, Bool, true, false, ◌&&◌, ◌==◌, if◌then◌else◌, Option, Some, None}
+use Rattle.std.specs.Prelude.{is_some}
 use Rattle.rendezvous_steps.specs.declared.steps.Kind.{Kind}
 use Rattle.rendezvous_steps.specs.declared.steps.Kind.TheVariants.{Online, Offline}
 use Rattle.rendezvous_steps.specs.declared.steps.ThreadResult.{ThreadResult}
 use Rattle.rendezvous_steps.specs.declared.steps.ThreadResult.TheVariants as results
 use Rattle.rendezvous_steps.specs.Plan.{Plan, is_online, offline_count}
 use Rattle.rendezvous_steps.specs.Events.{put}
-use Rattle.rendezvous_model.specs.Round.{Out, In, Withdrawn, Stage, Gathering, Going, DroppedByKick, DroppedBy, GroupPlace, Waiting, Writing, Written, Reported, State, Cause, Timeout, Run, is_own, nobody, only, is_gathering, is_dropped, still_awaited}
+use Rattle.rendezvous_model.specs.Round.{Out, In, Withdrawn, Stage, Gathering, Going, DroppedByKick, DroppedBy}
+use Rattle.rendezvous_model.specs.Round.{GroupPlace, Waiting, Writing, Written, Reported, State, Cause, Timeout, Run}
+use Rattle.rendezvous_model.specs.Round.{is_own, nobody, only, is_gathering, is_dropped, still_awaited}
 
 -- It enters. An Offline thread does so only once it is kicked, and an NMI can bring it in.
 

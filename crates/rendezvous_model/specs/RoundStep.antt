@@ -6,7 +6,8 @@ use Rattle.rendezvous_steps.specs.declared.items.Event.{Event}
 use Rattle.rendezvous_steps.specs.declared.items.Event.TheVariants as event
 use Rattle.rendezvous_steps.specs.Plan.{Plan}
 use Rattle.rendezvous_model.specs.Round.{State, Cause, Step, Timeout, Nmi, Run, is_own, is_held}
-use Rattle.rendezvous_model.specs.RoundItems.{Enters, Kicks, Arrives, Goes, Drops, DropsByKick, Withdraws, Begins, Writes, Reports, Frees}
+use Rattle.rendezvous_model.specs.RoundItems.{Enters, Kicks, Arrives, Goes, Drops, DropsByKick, Withdraws, Begins}
+use Rattle.rendezvous_model.specs.RoundItems.{Writes, Reports, Frees}
 use Rattle.rendezvous_model.specs.RoundEnds.{Leaves, Halts, Polls, StaysIn, RunsOrdinary, Latches, Idles}
 
 -- an attempt to run ordinary code is a step of a thread that is held

@@ -1,5 +1,6 @@
 -- Runs of the model over the events of a schedule, with one item for each event until no thread is unfinished.
-use Rattle.std.specs.Prelude.{◌≡◌, ◌⊎◌, ℕ, ◌+◌, ◌*◌, ◌<◌, ◌≤◌, Bool, true, false, ◌&&◌, ◌==◌, List, length, Some, slice_get, count_by}
+use Rattle.std.specs.Prelude.{◌≡◌, ◌⊎◌, ℕ, ◌+◌, ◌*◌, ◌<◌, ◌≤◌, Bool, true, false, ◌&&◌, ◌==◌, List, length, Some}
+use Rattle.std.specs.Prelude.{slice_get, count_by}
 use Rattle.rendezvous_steps.specs.declared.items.What.{What}
 use Rattle.rendezvous_steps.specs.declared.items.What.TheVariants as what
 use Rattle.rendezvous_steps.specs.declared.items.Event.{Event}
@@ -8,14 +9,15 @@ use Rattle.rendezvous_steps.specs.Plan.{Plan}
 use Rattle.rendezvous_model.specs.Round.{State, opening_state, unfinished_count}
 use Rattle.rendezvous_model.specs.RoundStep.{Round, thread_of}
 
--- An item, and the event that it answers, between the state before and the state after. Some thread was unfinished before.
+-- An item, and the event that it answers, between the state before and the state after. Some thread was unfinished
+-- before.
 pub record Answered (plan : Plan) (event : Event) (item : Item) (before after : State) : Type 0 where
   pub of_its_thread : item.thread ≡ thread_of event
   pub goes_on : 0 < unfinished_count plan before
   pub step : Round plan before event item.what after
 
--- The items answer the events in order, from the opening state through these states. They end at the first state in which no
--- thread is unfinished, or with the events.
+-- The items answer the events in order, from the opening state through these states. They end at the first state in
+-- which no thread is unfinished, or with the events.
 pub record Run (plan : Plan) (events : List Event) (items : List Item) (states : ℕ → State) : Type 0 where
   pub opens : states 0 ≡ opening_state plan
   pub no_more : length items ≤ length events

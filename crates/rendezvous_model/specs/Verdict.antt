@@ -1,5 +1,6 @@
 -- What a load answers for an outcome: the first that holds, and else Done.
-use Rattle.std.specs.Prelude.{◌≡◌, ◌<◌, ◌≤◌, ℕ, ◌-◌, Bool, true, false, ◌&&◌, ◌==◌, nat_le, List, [], ◌∷◌, Option, Some, None, unwrap_or, option_map, count_by, find, get_or}
+use Rattle.std.specs.Prelude.{◌≡◌, ◌<◌, ◌≤◌, ℕ, ◌-◌, Bool, true, false, ◌&&◌, ◌==◌, nat_le, List, [], ◌∷◌, Option, Some}
+use Rattle.std.specs.Prelude.{None, unwrap_or, option_map, count_by, find, get_or}
 use Rattle.std.specs.List.{list_any}
 use Rattle.rendezvous_steps.specs.declared.steps.ThreadResult.TheVariants as results
 use Rattle.rendezvous_steps.specs.declared.ends.End.{End}
@@ -82,9 +83,11 @@ LoadVerdict plan outcome (OfflineSilent k) =
     AllEnded plan outcome × (outcome.decide ≡ 2) × (k ≡ withdrawn_count outcome)
 LoadVerdict plan outcome (TimedOut t) = AllEnded plan outcome × (3 ≤ outcome.decide) × (t ≡ outcome.decide - 3)
 LoadVerdict plan outcome (Failed t) =
-    AllEnded plan outcome × (outcome.decide < 2) × IsLowest plan (refused_at plan outcome) t × (some_updated outcome ≡ false)
+    AllEnded plan outcome × (outcome.decide < 2) × IsLowest plan (refused_at plan outcome) t
+    × (some_updated outcome ≡ false)
 LoadVerdict plan outcome (Incomplete t) =
-    AllEnded plan outcome × (outcome.decide < 2) × IsLowest plan (refused_at plan outcome) t × (some_updated outcome ≡ true)
+    AllEnded plan outcome × (outcome.decide < 2) × IsLowest plan (refused_at plan outcome) t
+    × (some_updated outcome ≡ true)
 LoadVerdict plan outcome Done =
     AllEnded plan outcome × (outcome.decide < 2) × NoThread plan (refused_at plan outcome)
 

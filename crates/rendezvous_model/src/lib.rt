@@ -1,5 +1,5 @@
-//! What the rendezvous of a late microcode load is, with no word, phase, counter or poll: sets of threads, one stage for
-//! all, and for each group a place and a revision. After Linux 6.7 arch/x86/kernel/cpu/microcode/core.c in outline.
+//! What the rendezvous of a late microcode load is, with no word, phase, counter or poll: sets of threads, one stage
+//! for all, and for each group a place and a revision. After Linux 6.7 arch/x86/kernel/cpu/microcode/core.c in outline.
 //! `specs/` has:
 //!
 //! - `Round`: the state. `RoundItems`, `RoundEnds`: the items of a thread, each with its condition and its change.

@@ -1,7 +1,9 @@
 -- What the shown state reads of a thread's state besides the words: small tests of its phase and of its result.
 use Rattle.std.specs.Prelude.{ℕ, Bool, true, false, not, ◌==◌}
 use Rattle.rendezvous_steps.specs.declared.steps.Phase.{Phase}
-use Rattle.rendezvous_steps.specs.declared.steps.Phase.TheVariants.{Outside, Kicking, OfflineWait, Arriving, Deciding, Writing, Checking, Reporting, Freeing, OfflineHold, Leaving, Left, Halted}
+use Rattle.rendezvous_steps.specs.declared.steps.Phase.TheVariants.{Outside, Kicking, OfflineWait, Arriving, Deciding}
+use Rattle.rendezvous_steps.specs.declared.steps.Phase.TheVariants.{Writing, Checking, Reporting, Freeing, OfflineHold}
+use Rattle.rendezvous_steps.specs.declared.steps.Phase.TheVariants.{Leaving, Left, Halted}
 use Rattle.rendezvous_steps.specs.declared.steps.Local.{Local}
 use Rattle.rendezvous_steps.specs.declared.steps.ThreadResult.TheVariants as results
 use Rattle.rendezvous_steps.specs.StepTable.{number_of}

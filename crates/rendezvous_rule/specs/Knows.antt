@@ -17,14 +17,14 @@ use Rattle.rendezvous_rule.specs.View.{is_timeout}
 
 -- What comes of a group after a go.
 
--- what its primary reports: of no offer Current, else whether the group takes it
-abbrev pub report_by : Option ℕ → Bool → ThreadResult
-report_by None refuses = results.Current
-report_by (Some offer) true = results.Error
-report_by (Some offer) false = results.Updated
+-- what its primary reports and leaves with: of no offer Current, else whether the group takes it
+abbrev pub primary_result : Option ℕ → Bool → ThreadResult
+primary_result None refuses = results.Current
+primary_result (Some offer) true = results.Error
+primary_result (Some offer) false = results.Updated
 
 unfoldable pub report_of : Plan → ℕ → ThreadResult
-report_of plan g = report_by (plan.offer g) (plan.refuse g)
+report_of plan g = primary_result (plan.offer g) (plan.refuse g)
 
 -- what an Online thread of it leaves with
 unfoldable pub result_for : Plan → ℕ → ThreadResult

@@ -1,6 +1,7 @@
--- What a run as a whole comes to: where it lists its items, those that the step table gives for the schedule, their lines and
--- the outcome that they lead to; where it does not, what holds of every outcome.
-use Rattle.std.specs.Prelude.{◌≡◌, ◌≢◌, ◌⊎◌, ◌↔◌, ℕ, zero, suc, ◌+◌, ◌-◌, ◌<◌, ◌≤◌, Bool, true, false, List, [], ◌∷◌, ◌++◌, length, map, Option, Some, None, slice_get, slice_index, flat_map}
+-- What a run as a whole comes to: where it lists its items, those that the step table gives for the schedule, their
+-- lines and the outcome that they lead to; where it does not, what holds of every outcome.
+use Rattle.std.specs.Prelude.{◌≡◌, ◌≢◌, ◌⊎◌, ◌↔◌, ℕ, zero, suc, ◌+◌, ◌-◌, ◌<◌, ◌≤◌, Bool, true, false, List, [], ◌∷◌}
+use Rattle.std.specs.Prelude.{◌++◌, length, map, Option, Some, None, slice_get, slice_index, flat_map}
 use Rattle.rendezvous_steps.specs.declared.steps.Kind.TheVariants.{Online, Offline, Absent}
 use Rattle.rendezvous_steps.specs.declared.steps.ThreadResult.{ThreadResult}
 use Rattle.rendezvous_steps.specs.declared.steps.ThreadResult.TheVariants as results
@@ -14,6 +15,7 @@ use Rattle.rendezvous_steps.specs.declared.ends.End.TheVariants as ends
 use Rattle.rendezvous_steps.specs.Plan.{Plan, is_primary, threads_from, online_count, offline_count}
 use Rattle.rendezvous_steps.specs.Events.{Running, opening_running, happens}
 use Rattle.rendezvous_model.specs.RoundEnds.{okay_for}
+pub use Rattle.rendezvous_rule.specs.Knows.{primary_result}
 use Rattle.rendezvous_rule.specs.Shown.{shown_by}
 use Rattle.rendezvous_model.specs.Run.{Run, FewInner}
 use Rattle.rendezvous_model.specs.Outcome.{Outcome, OutcomeShows}
@@ -31,7 +33,8 @@ events_of plan (beat.Step t ∷ beats) = event.Step t ∷ events_of plan beats
 events_of plan (beat.Timeout t ∷ beats) = event.Timeout t ∷ events_of plan beats
 events_of plan (beat.Nmi t ∷ beats) = event.Nmi t ∷ events_of plan beats
 events_of plan (beat.Run t ∷ beats) = event.Run t ∷ events_of plan beats
-events_of plan (beat.Rounds n ∷ beats) = repeated n (map (λ t. event.Step t) (threads_from plan 0)) (events_of plan beats)
+events_of plan (beat.Rounds n ∷ beats) =
+    repeated n (map (λ t. event.Step t) (threads_from plan 0)) (events_of plan beats)
 
 -- A run that lists its items, each by a line.
 
@@ -40,9 +43,11 @@ pub record Played (plan : Plan) (events : List Event) (items : List Item) (momen
   pub opens : moments 0 ≡ opening_running plan
   pub happens :
       (k : ℕ) (e : Event) (item : Item) →
-      slice_get events k ≡ Some e → slice_get items k ≡ Some item → happens plan e (moments k) ≡ (moments (k + 1), item.what)
+      slice_get events k ≡ Some e → slice_get items k ≡ Some item →
+      happens plan e (moments k) ≡ (moments (k + 1), item.what)
 
-pub record Listed (line : Item → List ℕ) (plan : Plan) (beats : List Beat) (text : List ℕ) (outcome : Outcome) : Type 0 where
+pub record Listed
+    (line : Item → List ℕ) (plan : Plan) (beats : List Beat) (text : List ℕ) (outcome : Outcome) : Type 0 where
   pub items : List Item
   pub moments : ℕ → Running
   pub played : Played plan (events_of plan beats) items moments
@@ -59,19 +64,15 @@ revision_after_go (Some offer) false first = offer
 revision_after_go (Some offer) true first = first
 revision_after_go None refuses first = first
 
--- what a primary leaves with after a go, and another Online thread of its group that did not halt
-abbrev pub primary_result : Option ℕ → Bool → ThreadResult
-primary_result None refuses = results.Current
-primary_result (Some offer) true = results.Error
-primary_result (Some offer) false = results.Updated
-
+-- what another Online thread than its primary, which leaves with what it reported, leaves with if it did not halt
 abbrev pub sibling_result : Option ℕ → Bool → ThreadResult
 sibling_result offer refuses = okay_for (primary_result offer refuses)
 
 -- each group runs its offer where it does not refuse, and each thread leaves with what that makes of it, or halts
 pub record AfterGo (plan : Plan) (outcome : Outcome) : Type 0 where
   pub revisions :
-      (g : ℕ) → g < plan.groups → slice_index outcome.revs g ≡ revision_after_go (plan.offer g) (plan.refuse g) (plan.rev0 g)
+      (g : ℕ) → g < plan.groups →
+      slice_index outcome.revs g ≡ revision_after_go (plan.offer g) (plan.refuse g) (plan.rev0 g)
   pub primaries :
       (t : ℕ) → t < plan.threads → plan.kind t ≡ Online → is_primary plan t ≡ true →
       end_at outcome t ≡ ends.Left (primary_result (plan.offer (plan.group t)) (plan.refuse (plan.group t)))

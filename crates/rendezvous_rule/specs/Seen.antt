@@ -7,7 +7,8 @@ use Rattle.rendezvous_steps.specs.declared.steps.ThreadResult.TheVariants as res
 use Rattle.rendezvous_steps.specs.Plan.{Plan, is_primary}
 use Rattle.rendezvous_steps.specs.Words.{Families}
 use Rattle.rendezvous_steps.specs.StepTable.{number_of, write_of}
-use Rattle.rendezvous_model.specs.Round.{Place, Out, In, Left, Halted, Withdrawn, Stage, GroupPlace, Waiting, Writing, Written, Reported, State, is_gathering, still_awaited, offline_arrived}
+use Rattle.rendezvous_model.specs.Round.{Place, Out, In, Left, Halted, Withdrawn, Stage, GroupPlace, Waiting, Writing}
+use Rattle.rendezvous_model.specs.Round.{Written, Reported, State, is_gathering, still_awaited, offline_arrived}
 use Rattle.rendezvous_model.specs.Outcome.{decide_of}
 use Rattle.rendezvous_rule.specs.View.{Views}
 

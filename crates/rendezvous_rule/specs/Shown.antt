@@ -8,7 +8,9 @@ use Rattle.rendezvous_steps.specs.Words.{Families, families}
 use Rattle.rendezvous_steps.specs.StepTable.{result_of}
 use Rattle.rendezvous_steps.specs.Events.{Running}
 use Rattle.rendezvous_rule.specs.Facets.{past_arriving, has_counted, is_deciding, is_writing, past_writing}
-use Rattle.rendezvous_model.specs.Round.{Place, Out, In, Left, Halted, Withdrawn, Absent, Stage, Gathering, Going, DroppedByKick, DroppedBy, GroupPlace, Waiting, Writing, Written, Reported, State, still_awaited, offline_arrived}
+use Rattle.rendezvous_model.specs.Round.{Place, Out, In, Left, Halted, Withdrawn, Absent, Stage, Gathering, Going}
+use Rattle.rendezvous_model.specs.Round.{DroppedByKick, DroppedBy, GroupPlace, Waiting, Writing, Written, Reported}
+use Rattle.rendezvous_model.specs.Round.{State, still_awaited, offline_arrived}
 use Rattle.rendezvous_rule.specs.Awaited.{awaited}
 
 -- where a thread is that has neither halted nor left, by its kind, its mode and its kick
@@ -22,8 +24,8 @@ place_of kind mode ctrl nmi =
     if ctrl == 3 then Halted else
     if nat_le 8 mode then Left (result_of (mode - 8)) else place_before_end kind mode nmi
 
--- an Online thread other than 0 and an Offline thread have arrived by their phase. Thread 0 has where Arrive is just the
--- number of the other Online threads that have not
+-- an Online thread other than 0 and an Offline thread have arrived by their phase. Thread 0 has where Arrive is just
+-- the number of the other Online threads that have not
 abbrev pub arrived_of : Kind → Bool → Bool → Local → Bool
 arrived_of Online true zero_arrived local = zero_arrived
 arrived_of Online false zero_arrived local = past_arriving local.phase
@@ -59,9 +61,10 @@ shown plan words locals latched =
 abbrev pub shown_by : Plan → Running → State
 shown_by plan running = shown plan (families running.words) running.locals running.latched
 
--- They stand for this state. Where the counts are not those of the state, or two threads are to decide, or the decision is
--- no thread's, they stand for none.
-pub record Shows (plan : Plan) (words : Families) (locals : ℕ → Local) (latched : ℕ → Bool) (state : State) : Type 0 where
+-- They stand for this state. Where the counts are not those of the state, or two threads are to decide, or the decision
+-- is no thread's, they stand for none.
+pub record Shows
+    (plan : Plan) (words : Families) (locals : ℕ → Local) (latched : ℕ → Bool) (state : State) : Type 0 where
   pub stands_for : state ≡ shown plan words locals latched
   pub arrive : words.arrive ≡ still_awaited plan state.arrived
   pub off_in : words.off_in ≡ offline_arrived plan state.arrived

@@ -6,7 +6,12 @@ use Rattle.std.specs.Prelude.{ℕ, ◌+◌, ◌*◌, ◌==◌, Bool, true, false
 use Rattle.rendezvous_steps.specs.declared.steps.Kind.{Kind}
 use Rattle.rendezvous_steps.specs.declared.steps.Kind.TheVariants.{Offline}
 use Rattle.rendezvous_steps.specs.declared.steps.Phase.{Phase}
-use Rattle.rendezvous_steps.specs.declared.steps.Phase.TheVariants.{Outside, Kicking, OfflineWait, Arriving, Deciding, Waiting, Reading, Beginning, Writing, Checking, Reporting, Freeing, SiblingWait, SiblingCheck, SiblingCopy, Withdrawing, Releasing, OfflineCount, OfflineHold, Leaving, Left, Halted, Withdrawn, Nothing}
+use Rattle.rendezvous_steps.specs.declared.steps.Phase.TheVariants.{Outside, Kicking, OfflineWait, Arriving, Deciding}
+use Rattle.rendezvous_steps.specs.declared.steps.Phase.TheVariants.{Waiting, Reading, Beginning, Writing, Checking}
+use Rattle.rendezvous_steps.specs.declared.steps.Phase.TheVariants.{Reporting, Freeing, SiblingWait, SiblingCheck}
+use Rattle.rendezvous_steps.specs.declared.steps.Phase.TheVariants.{SiblingCopy, Withdrawing, Releasing, OfflineCount}
+use Rattle.rendezvous_steps.specs.declared.steps.Phase.TheVariants.{OfflineHold, Leaving, Left, Halted, Withdrawn}
+use Rattle.rendezvous_steps.specs.declared.steps.Phase.TheVariants.{Nothing}
 use Rattle.rendezvous_steps.specs.declared.steps.Local.{Local}
 use Rattle.rendezvous_steps.specs.declared.items.What.{What}
 use Rattle.rendezvous_steps.specs.declared.items.What.TheVariants as what

@@ -100,7 +100,9 @@ is_outside phase = false
 abbrev pub nmi_offline : Plan → ℕ → Running → Running × What
 nmi_offline plan t running =
     if is_outside ((running.locals t).phase) then steps plan t how.Nmi running else
-    if shows_left running.words t || shows_withdrawn plan running.words t then runs_ordinary t running else idles running
+    if shows_left running.words t || shows_withdrawn plan running.words t
+    then runs_ordinary t running
+    else idles running
 
 -- an NMI from elsewhere, at a thread of this kind that is not held
 abbrev pub nmi_by : Kind → Plan → ℕ → Running → Running × What

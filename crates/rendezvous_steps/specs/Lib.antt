@@ -3,3 +3,4 @@ pub mod Padded
 pub mod Words
 pub mod StepTable
 pub mod Events
+pub mod ItemText

@@ -1,6 +1,7 @@
 -- What a load sets out with. The tables are functions of thread and group numbers, which have a value past their end
 -- too: no thread there takes part, and no group there has an offer or a primary that takes part.
-use Rattle.std.specs.Prelude.{◌≡◌, ◌≢◌, ℕ, ◌-◌, ◌<◌, ◌≤◌, Bool, true, false, not, ◌&&◌, ◌==◌, List, Option, Some, count_by, unwrap_or}
+use Rattle.std.specs.Prelude.{◌≡◌, ◌≢◌, ℕ, ◌-◌, ◌<◌, ◌≤◌, Bool, true, false, not, ◌&&◌, ◌==◌, List, Option, Some}
+use Rattle.std.specs.Prelude.{count_by, unwrap_or}
 use Rattle.std.specs.List.{find, range_with_len}
 use Rattle.rendezvous_steps.specs.declared.steps.Kind.{Kind}
 use Rattle.rendezvous_steps.specs.declared.steps.Kind.TheVariants.{Online, Offline, Absent}
@@ -69,6 +70,7 @@ pub record Sound (plan : Plan) : Type 0 where
   pub primary_is_the_lowest : (t : ℕ) → t < plan.threads → plan.primary (plan.group t) ≤ t
   pub thread_0_is_online : plan.kind 0 ≡ Online
   -- a group that takes part has an Online primary, and only such a group has an offer
-  pub present_primary : (t : ℕ) → t < plan.threads → plan.kind t ≢ Absent → plan.kind (plan.primary (plan.group t)) ≡ Online
+  pub present_primary :
+      (t : ℕ) → t < plan.threads → plan.kind t ≢ Absent → plan.kind (plan.primary (plan.group t)) ≡ Online
   pub offer_to_present : (g o : ℕ) → g < plan.groups → plan.offer g ≡ Some o → plan.kind (plan.primary g) ≡ Online
   pub offer_is_greater : (g o : ℕ) → g < plan.groups → plan.offer g ≡ Some o → plan.rev0 g < o

@@ -6,7 +6,12 @@ use Rattle.rendezvous_steps.specs.declared.steps.Kind.TheVariants.{Offline, Abse
 use Rattle.rendezvous_steps.specs.declared.steps.ThreadResult.{ThreadResult}
 use Rattle.rendezvous_steps.specs.declared.steps.ThreadResult.TheVariants as results
 use Rattle.rendezvous_steps.specs.declared.steps.Phase.{Phase}
-use Rattle.rendezvous_steps.specs.declared.steps.Phase.TheVariants.{Outside, Kicking, OfflineWait, Arriving, Deciding, Waiting, Reading, Beginning, Writing, Checking, Reporting, Freeing, SiblingWait, SiblingCheck, SiblingCopy, Withdrawing, Releasing, OfflineCount, OfflineHold, Leaving, Left, Halted, Withdrawn, Nothing}
+use Rattle.rendezvous_steps.specs.declared.steps.Phase.TheVariants.{Outside, Kicking, OfflineWait, Arriving, Deciding}
+use Rattle.rendezvous_steps.specs.declared.steps.Phase.TheVariants.{Waiting, Reading, Beginning, Writing, Checking}
+use Rattle.rendezvous_steps.specs.declared.steps.Phase.TheVariants.{Reporting, Freeing, SiblingWait, SiblingCheck}
+use Rattle.rendezvous_steps.specs.declared.steps.Phase.TheVariants.{SiblingCopy, Withdrawing, Releasing, OfflineCount}
+use Rattle.rendezvous_steps.specs.declared.steps.Phase.TheVariants.{OfflineHold, Leaving, Left, Halted, Withdrawn}
+use Rattle.rendezvous_steps.specs.declared.steps.Phase.TheVariants.{Nothing}
 use Rattle.rendezvous_steps.specs.declared.steps.Local.{Local}
 use Rattle.rendezvous_steps.specs.declared.steps.How.{How}
 use Rattle.rendezvous_steps.specs.declared.steps.How.TheVariants as how
@@ -202,15 +207,19 @@ after_in plan t local how.Timeout found Waiting =
     if found == 0 then (drop_path plan t local, what.Drop) else by_decision plan t local found
 after_in plan t local h found Waiting =
     if found == 0 then (polled local, what.Poll) else by_decision plan t local found
-after_in plan t local h found Reading =
-    (if exceeds (plan.offer (plan.group t)) found then to local Beginning else with_result local 3 Reporting, what.Inner)
+after_in plan t local h found Reading = (
+  if exceeds (plan.offer (plan.group t)) found then to local Beginning else with_result local 3 Reporting,
+  what.Inner,
+)
 after_in plan t local h found Beginning = (to local Writing, what.Begin (plan.group t))
 after_in plan t local h found Writing =
     (to local Checking, what.Wrote (plan.group t) (write_of plan (plan.group t)))
 after_in plan t local h found Checking =
     (with_result local (if found == offer_or_rev0 plan (plan.group t) then 1 else 4) Reporting, what.Inner)
-after_in plan t local h found Reporting =
-    (free_at (record local { mine = told local.mine }) (sibling_from plan t 0), what.Report (plan.group t) (result_of local.mine))
+after_in plan t local h found Reporting = (
+  free_at (record local { mine = told local.mine }) (sibling_from plan t 0),
+  what.Report (plan.group t) (result_of local.mine),
+)
 after_in plan t local h found Freeing =
     (free_at local (sibling_from plan t (local.at + 1)), if found == 0 then what.Free local.at else what.Inner)
 after_in plan t local how.Timeout found SiblingWait =

@@ -1,7 +1,8 @@
 -- The control words, as a function of which word, and what an operation leaves of them.
 use Rattle.std.specs.Prelude.{ℕ, ◌+◌, ◌-◌, ◌%◌, ◌^◌, ◌==◌, if◌then◌else◌}
 use Rattle.rendezvous_steps.specs.declared.operations.Word.{Word}
-use Rattle.rendezvous_steps.specs.declared.operations.Word.TheVariants.{Arrive, OffIn, Decide, Mode, Ctrl, Nmi, Rev, Res}
+use Rattle.rendezvous_steps.specs.declared.operations.Word.TheVariants.{Arrive, OffIn, Decide, Mode, Ctrl, Nmi, Rev}
+use Rattle.rendezvous_steps.specs.declared.operations.Word.TheVariants.{Res}
 use Rattle.rendezvous_steps.specs.declared.operations.Op.{Op}
 use Rattle.rendezvous_steps.specs.declared.operations.Op.TheVariants.{Load, Store, Add, Sub, Cas}
 use Rattle.rendezvous_steps.specs.Plan.{Plan, online_count}

@@ -2,7 +2,8 @@
 
 use crate::steps::ThreadResult;
 
-/// A part of a schedule: one event of a thread, or rounds. An event is no enum within it, so that a beat takes four bytes.
+/// A part of a schedule: one event of a thread, or rounds. An event is no enum within it, so that a beat takes four
+/// bytes.
 #[derive(Clone, Copy, Debug, PartialEq, Eq)]
 pub enum Beat {
     /// A step of a thread.

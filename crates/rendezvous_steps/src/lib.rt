@@ -6,14 +6,14 @@
 //!
 //! The crate has the plain types that contracts speak of, and in `specs/` what the threads do:
 //!
-//! - `Plan`: what a load sets out with, as functions of thread and group numbers, and when a plan is sound. `Padded`: what
-//!   a plan's tables hold past their end.
+//! - `Plan`: what a load sets out with, as functions of thread and group numbers, and when a plan is sound. `Padded`:
+//!   what a plan's tables hold past their end.
 //! - `Words`: the control words, and what one operation leaves of them.
 //! - `StepTable`: the operation of a thread in each phase, and the next phase and the item for each old value.
 //! - `Events`: what an event of a schedule does.
 //!
-//! What a rendezvous is, with no word and no phase, says `rendezvous_model`; what holds of words and threads between two
-//! steps says `rendezvous_rule`. The code here converts numbers and names, and decides nothing.
+//! What a rendezvous is, with no word and no phase, says `rendezvous_model`; what holds of words and threads between
+//! two steps says `rendezvous_rule`. The code here converts numbers and names, and decides nothing.
 #![tactic(auto)]
 
 mod ends;

@@ -19,7 +19,7 @@ use Rattle.rendezvous_model.specs.RoundItems.{Frees, FreesSibling}
 use Rattle.rendezvous_model.specs.RoundEnds.{okay_for}
 use Rattle.rendezvous_rule.specs.View.{View, Views, view, views, is_timeout}
 use Rattle.rendezvous_rule.specs.Seen.{seen, words_of, place_seen, ctrl_code, release_code, freed_seen}
-use Rattle.rendezvous_rule.specs.Knows.{Knows, Ends, HasResult, report_of, report_by, result_for}
+use Rattle.rendezvous_rule.specs.Knows.{Knows, Ends, HasResult, report_of, primary_result, result_for}
 use Rattle.rendezvous_rule.specs.Rule.{RuleBy}
 use Rattle.rule_laws.specs.Kept.{Kept, event_of, is_step}
 use Rattle.rule_laws.proofs.Frame.{at_phase, coded, put_back, put_map, and_false, and_both, not_itself, sibling, leads_sibling, no_primary_of}
@@ -34,7 +34,7 @@ use Rattle.round_laws.proofs.Inside.{inside_after_go}
 
 -- What others see of a primary that frees, or is about to leave after a go.
 
-pub report_no_timeout : (offer : Option ℕ) (refuses : Bool) → is_timeout (number_of (report_by offer refuses)) ≡ false
+pub report_no_timeout : (offer : Option ℕ) (refuses : Bool) → is_timeout (number_of (primary_result offer refuses)) ≡ false
 report_no_timeout None refuses = refl
 report_no_timeout (Some o) true = refl
 report_no_timeout (Some o) false = refl
@@ -87,7 +87,7 @@ frees_row plan t k at polls mine None s reports e =
 
 release_by :
     (offer : Option ℕ) (refuses : Bool) →
-    (if number_of (report_by offer refuses) == 1 then 1 else 2) ≡ release_code (Reported (report_by offer refuses))
+    (if number_of (primary_result offer refuses) == 1 then 1 else 2) ≡ release_code (Reported (primary_result offer refuses))
 release_by None refuses = refl
 release_by (Some o) true = refl
 release_by (Some o) false = refl
@@ -99,7 +99,7 @@ unfolding report_of
 released plan g mine e = ap (λ n. if n == 1 then 1 else 2) e ∙ release_by (plan.offer g) (plan.refuse g)
 
 result_back :
-    (offer : Option ℕ) (refuses : Bool) → result_of (number_of (report_by offer refuses)) ≡ report_by offer refuses
+    (offer : Option ℕ) (refuses : Bool) → result_of (number_of (primary_result offer refuses)) ≡ primary_result offer refuses
 result_back None refuses = refl
 result_back (Some o) true = refl
 result_back (Some o) false = refl

@@ -21,7 +21,7 @@ use Rattle.rendezvous_model.specs.Round.{In, Halted, Withdrawn, GroupPlace, Repo
 use Rattle.rendezvous_model.specs.RoundEnds.{Halts, may_halt, for_primary, to_be_freed}
 use Rattle.rendezvous_rule.specs.View.{View, view, views, is_timeout}
 use Rattle.rendezvous_rule.specs.Seen.{seen, words_of, mode_code, ctrl_code, nmi_code, release_code, writes_now}
-use Rattle.rendezvous_rule.specs.Knows.{Knows, Came, report_of, report_by}
+use Rattle.rendezvous_rule.specs.Knows.{Knows, Came, report_of, primary_result}
 use Rattle.rendezvous_rule.specs.Rule.{RuleBy}
 use Rattle.rule_laws.specs.Kept.{Kept, event_of, is_step}
 use Rattle.rule_laws.proofs.Frame.{at_phase, coded, code_kept, offline_leads_not}
@@ -214,19 +214,19 @@ sibling_freed :
     plan.kind t ≡ Online →
     is_primary plan t ≡ false →
     (state plan first moment.locals Going).freed t ≡ true →
-    report_of plan (plan.group t) ≡ report_by offer refuses → Kept plan (event_of h t) moment (steps plan t h moment)
+    report_of plan (plan.group t) ≡ primary_result offer refuses → Kept plan (event_of h t) moment (steps plan t h moment)
 sibling_freed plan moment t h first at polls mine offer refuses sound padded rule own here online primary freed report =
     let local = at_phase phase.SiblingWait at polls mine in
     let s = state plan first moment.locals Going in
     let inside = is_inside plan moment.locals first Going nobody t local here refl in
-    let reported : s.group (plan.group t) ≡ Reported (report_by offer refuses) =
+    let reported : s.group (plan.group t) ≡ Reported (primary_result offer refuses) =
     freed_reported plan (families moment.words) moment.locals first Going t sound padded rule refl freed
     ∙ ap (λ x. Reported x) report in
-    let found : moment.words (word.Ctrl t) ≡ release_code (Reported (report_by offer refuses)) =
+    let found : moment.words (word.Ctrl t) ≡ release_code (Reported (primary_result offer refuses)) =
     found_freed plan (families moment.words) s t rule.says inside freed ∙ ap release_code reported in
     let goes =
-    sibling_goes plan t h at polls mine (release_code (Reported (report_by offer refuses))) own
-    (release_told (Reported (report_by offer refuses))) in
+    sibling_goes plan t h at polls mine (release_code (Reported (primary_result offer refuses))) own
+    (release_told (Reported (primary_result offer refuses))) in
     by offer refuses report found
     (ap (λ w. after plan t local h (moment.words w)) (wait_touches t h) ∙ ap (after plan t local h) found ∙ goes)
   where
@@ -251,10 +251,10 @@ sibling_freed plan moment t h first at polls mine offer refuses sound padded rul
 
     by :
         (offer : Option ℕ) (refuses : Bool) →
-        report_of plan (plan.group t) ≡ report_by offer refuses →
-        moment.words (word.Ctrl t) ≡ release_code (Reported (report_by offer refuses)) →
+        report_of plan (plan.group t) ≡ primary_result offer refuses →
+        moment.words (word.Ctrl t) ≡ release_code (Reported (primary_result offer refuses)) →
         after plan t (at_phase phase.SiblingWait at polls mine) h (moment.words (touched (wait_op t h)))
-        ≡ by_release (at_phase phase.SiblingWait at polls mine) (release_code (Reported (report_by offer refuses))) →
+        ≡ by_release (at_phase phase.SiblingWait at polls mine) (release_code (Reported (primary_result offer refuses))) →
         Kept plan (event_of h t) moment (steps plan t h moment)
     by None refuses report found step =
         kept (at_phase phase.SiblingCopy at polls mine) step (ap (λ n. n == 0) found) refl

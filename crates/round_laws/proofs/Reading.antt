@@ -21,7 +21,7 @@ use Rattle.rendezvous_steps.specs.Events.{Running, steps}
 use Rattle.rendezvous_model.specs.Round.{Waiting, Written, Going, nobody}
 use Rattle.rendezvous_rule.specs.View.{view}
 use Rattle.rendezvous_rule.specs.Seen.{words_of, revision_in}
-use Rattle.rendezvous_rule.specs.Knows.{Knows, report_of, report_by}
+use Rattle.rendezvous_rule.specs.Knows.{Knows, report_of, primary_result}
 use Rattle.rendezvous_rule.specs.Rule.{RuleBy}
 use Rattle.rule_laws.specs.Kept.{Kept, event_of, is_step}
 use Rattle.rule_laws.proofs.Frame.{at_phase, same_numbers, different}
@@ -90,7 +90,7 @@ reads_by plan moment t h first at polls mine (Some o) sound padded rule own here
     (is_inside plan moment.locals first Going nobody t local here refl)
 reads_by plan moment t h first at polls mine None sound padded rule own here online primary e step =
     let local = at_phase phase.Reading at polls mine in
-    let none : report_of plan (plan.group t) ≡ results.Current = ap (λ o. report_by o (plan.refuse (plan.group t))) e in
+    let none : report_of plan (plan.group t) ≡ results.Current = ap (λ o. primary_result o (plan.refuse (plan.group t))) e in
     inner_kept plan moment t h (Load (word.Rev (plan.group t))) local
     (at_phase phase.Reporting at polls 3) first first Going
     sound padded rule own here refl step (λ other. refl) refl
@@ -131,7 +131,7 @@ checked_by :
     plan.offer g ≡ offer →
     plan.refuse g ≡ refuses →
     is_some offer ≡ true →
-    (if write_of plan g == offer_or_rev0 plan g then 1 else 4) ≡ number_of (report_by offer refuses)
+    (if write_of plan g == offer_or_rev0 plan g then 1 else 4) ≡ number_of (primary_result offer refuses)
 checked_by plan g None refuses sound padded e f some = cc
 checked_by plan g (Some o) true sound padded e f some =
     let low = offer_exceeds plan g o sound padded e in

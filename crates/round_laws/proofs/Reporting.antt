@@ -19,7 +19,7 @@ use Rattle.rendezvous_model.specs.RoundItems as items
 use Rattle.rendezvous_model.specs.RoundItems.{Reports}
 use Rattle.rendezvous_rule.specs.View.{View, view, views}
 use Rattle.rendezvous_rule.specs.Seen.{seen, words_of, mode_code, revision_in, ctrl_code, has_begun}
-use Rattle.rendezvous_rule.specs.Knows.{Knows, report_of, report_by}
+use Rattle.rendezvous_rule.specs.Knows.{Knows, report_of, primary_result}
 use Rattle.rendezvous_rule.specs.Rule.{RuleBy}
 use Rattle.rule_laws.specs.Kept.{Kept, event_of, is_step}
 use Rattle.rule_laws.proofs.Frame.{at_phase, put_back, primary_is, and_false, same_numbers, different}
@@ -41,7 +41,7 @@ before_report (Some o) = Written
 
 by_mine :
     (offer : Option ℕ) (refuses : Bool) →
-    (if number_of (report_by offer refuses) == number_of results.Current then Waiting else Written)
+    (if number_of (primary_result offer refuses) == number_of results.Current then Waiting else Written)
     ≡ before_report offer
 by_mine None refuses = refl
 by_mine (Some o) true = refl
@@ -49,7 +49,7 @@ by_mine (Some o) false = refl
 
 begun_same :
     (offer : Option ℕ) (refuses : Bool) →
-    has_begun (Reported (report_by offer refuses)) ≡ has_begun (before_report offer)
+    has_begun (Reported (primary_result offer refuses)) ≡ has_begun (before_report offer)
 begun_same None refuses = refl
 begun_same (Some o) true = refl
 begun_same (Some o) false = refl
@@ -72,7 +72,7 @@ model_report :
     plan.offer g ≡ offer →
     plan.refuse g ≡ refuses →
     items.report_of (before_report offer) offer (revision_in plan g (before_report offer))
-    ≡ Some (report_by offer refuses)
+    ≡ Some (primary_result offer refuses)
 model_report plan g None refuses sound padded e f = refl
 model_report plan g (Some o) true sound padded e f =
     let low = offer_exceeds plan g o sound padded e in

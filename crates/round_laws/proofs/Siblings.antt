@@ -19,7 +19,7 @@ use Rattle.rendezvous_model.specs.Round.{Waiting, Reported, Going, nobody}
 use Rattle.rendezvous_model.specs.RoundEnds.{okay_for}
 use Rattle.rendezvous_rule.specs.View.{View, view, is_timeout}
 use Rattle.rendezvous_rule.specs.Seen.{words_of, revision_in, res_code}
-use Rattle.rendezvous_rule.specs.Knows.{Knows, Ends, ToldApply, ToldDone, report_of, report_by, result_for}
+use Rattle.rendezvous_rule.specs.Knows.{Knows, Ends, ToldApply, ToldDone, report_of, primary_result, result_for}
 use Rattle.rendezvous_rule.specs.Rule.{RuleBy}
 use Rattle.rule_laws.specs.Kept.{Kept, event_of, is_step}
 use Rattle.rule_laws.proofs.Frame.{at_phase, same_numbers}
@@ -58,7 +58,7 @@ no_primary_leaves plan t first at polls mine primary goes =
 
 offer_runs :
     (plan : Plan) (g : ℕ) (offer : Option ℕ) (refuses : Bool) → plan.refuse g ≡ refuses →
-    report_by offer refuses ≡ results.Updated → write_of plan g ≡ offer_or_rev0 plan g
+    primary_result offer refuses ≡ results.Updated → write_of plan g ≡ offer_or_rev0 plan g
 offer_runs plan g None refuses e f = cc
 offer_runs plan g (Some o) true e f = cc
 offer_runs plan g (Some o) false e f = ap (λ b. if b then plan.rev0 g else unwrap_or (plan.offer g) (plan.rev0 g)) e
@@ -99,10 +99,10 @@ checks_kept plan moment t h first at polls mine sound padded rule own here onlin
 
 -- It was told that it has not, and takes over what its primary reported.
 
-passed_on : (offer : Option ℕ) (refuses : Bool) → report_by offer refuses ≢ results.Updated →
-    (is_timeout (number_of (report_by offer refuses)) ≡ false)
-    × (okay_for (report_by offer refuses) ≡ report_by offer refuses)
-    × (told (number_of (report_by offer refuses)) ≡ number_of (report_by offer refuses))
+passed_on : (offer : Option ℕ) (refuses : Bool) → primary_result offer refuses ≢ results.Updated →
+    (is_timeout (number_of (primary_result offer refuses)) ≡ false)
+    × (okay_for (primary_result offer refuses) ≡ primary_result offer refuses)
+    × (told (number_of (primary_result offer refuses)) ≡ number_of (primary_result offer refuses))
 passed_on None refuses other = (refl, refl, refl)
 passed_on (Some o) true other = (refl, refl, refl)
 passed_on (Some o) false other = absurd (other refl)

@@ -10,4 +10,5 @@ VerdictHolds = (plan : Plan) (outcome : Outcome) → LoadVerdict plan outcome (l
 
 abbrev pub VerdictIsOne : Type 0
 VerdictIsOne =
-    (plan : Plan) (outcome : Outcome) (verdict : Verdict) → LoadVerdict plan outcome verdict → verdict ≡ load_verdict plan outcome
+    (plan : Plan) (outcome : Outcome) (verdict : Verdict) →
+    LoadVerdict plan outcome verdict → verdict ≡ load_verdict plan outcome

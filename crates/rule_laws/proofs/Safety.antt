@@ -16,7 +16,7 @@ use Rattle.rendezvous_model.specs.RoundEnds.{okay_for}
 use Rattle.rendezvous_model.specs.Safe.{Safe, is_in_write}
 use Rattle.rendezvous_rule.specs.View.{views, place_in, arrived_in, write_in, is_timeout}
 use Rattle.rendezvous_rule.specs.Seen.{seen, place_seen, revision_in}
-use Rattle.rendezvous_rule.specs.Knows.{Knows, OnlineKnows, OfflineKnows, Ends, report_of, report_by, result_for}
+use Rattle.rendezvous_rule.specs.Knows.{Knows, OnlineKnows, OfflineKnows, Ends, report_of, primary_result, result_for}
 use Rattle.rendezvous_rule.specs.Rule.{RuleBy}
 use Rattle.rule_laws.specs.Laws.{RuledIsSafe}
 use Rattle.rule_laws.proofs.Frame.{primary_is, equal_numbers}
@@ -185,7 +185,7 @@ first_or_offer plan g (Reported x) = write_is plan g (plan.offer g) (plan.refuse
 -- the group has its offer where the report is Updated
 updated_offer :
     (plan : Plan) (g : ℕ) (offer : Option ℕ) (refuses : Bool) →
-    plan.offer g ≡ offer → plan.refuse g ≡ refuses → report_by offer refuses ≡ results.Updated →
+    plan.offer g ≡ offer → plan.refuse g ≡ refuses → primary_result offer refuses ≡ results.Updated →
     plan.offer g ≡ Some (write_of plan g)
 updated_offer plan g None refuses e f u = cc
 updated_offer plan g (Some o) true e f u = cc
@@ -198,7 +198,7 @@ updated_offer plan g (Some o) false e f u =
 
 error_refuses :
     (plan : Plan) (g : ℕ) (offer : Option ℕ) (refuses : Bool) →
-    plan.refuse g ≡ refuses → report_by offer refuses ≡ results.Error →
+    plan.refuse g ≡ refuses → primary_result offer refuses ≡ results.Error →
     (plan.refuse g ≡ true) × (write_of plan g ≡ plan.rev0 g)
 error_refuses plan g None refuses f u = cc
 error_refuses plan g (Some o) true f u =
@@ -236,16 +236,16 @@ is_updated_or_okay results.Okay = true
 is_updated_or_okay x = false
 
 reports_success :
-    (offer : Option ℕ) (refuses : Bool) → is_updated_or_okay (report_by offer refuses) ≡ true →
-    report_by offer refuses ≡ results.Updated
+    (offer : Option ℕ) (refuses : Bool) → is_updated_or_okay (primary_result offer refuses) ≡ true →
+    primary_result offer refuses ≡ results.Updated
 unfolding is_updated_or_okay
 reports_success None refuses e = cc
 reports_success (Some o) true e = cc
 reports_success (Some o) false e = refl
 
 okay_success :
-    (offer : Option ℕ) (refuses : Bool) → is_updated_or_okay (okay_for (report_by offer refuses)) ≡ true →
-    report_by offer refuses ≡ results.Updated
+    (offer : Option ℕ) (refuses : Bool) → is_updated_or_okay (okay_for (primary_result offer refuses)) ≡ true →
+    primary_result offer refuses ≡ results.Updated
 unfolding is_updated_or_okay
 okay_success None refuses e = cc
 okay_success (Some o) true e = cc

@@ -21,7 +21,8 @@ abbrev pub RuledShows : Type 0
 RuledShows =
     (plan : Plan) (moment : Running) →
     Sound plan →
-    Padded plan → Ruled plan moment → Shows plan (families moment.words) moment.locals moment.latched (shown_by plan moment)
+    Padded plan → Ruled plan moment →
+    Shows plan (families moment.words) moment.locals moment.latched (shown_by plan moment)
 
 -- and only one
 abbrev pub ShowsOne : Type 0

@@ -14,7 +14,8 @@ pub fn the_rule_shows_one_state()
     ensures one { ShowsOne }
 {}
 
-/// A state that a moment with the rule shows is safe: no thread of a group is outside the handler while the group is written.
+/// A state that a moment with the rule shows is safe: no thread of a group is outside the handler while the group is
+/// written.
 pub fn the_rule_is_safe()
     ensures { RuledIsSafe }
 {}

@@ -1,5 +1,5 @@
-//! Laws of the rule between steps: that it holds when a load begins, that words and threads' states that meet it stand for
-//! one state of the model, and that this state is safe. Each law is the contract of a function that does nothing.
+//! Laws of the rule between steps: that it holds when a load begins, that words and threads' states that meet it stand
+//! for one state of the model, and that this state is safe. Each law is the contract of a function that does nothing.
 //!
 //! The lemmas in `proofs/` are those that every step of the table needs: what one thread's step changes of what others
 //! see (`Tables`), that others know what they knew (`Later`), that the state shown is the one that the views make

@@ -8,3 +8,5 @@ pub mod Few
 pub mod Model
 pub mod Fronts
 pub mod SafeRuns
+pub mod ManyItems
+pub mod LowOffer

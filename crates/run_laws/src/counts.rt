@@ -2,8 +2,8 @@
 
 ghost use Rattle.run_laws.specs.Counted.{RanksFall, AllRanksFall, FirstRanks, FewInnerItems, FewCounted};
 
-/// An event lowers the rank of its thread by what its item counts, and touches no other thread's. So it does with the sum
-/// of all ranks, which is at most 20 for each thread and 8 more when a rendezvous begins.
+/// An event lowers the rank of its thread by what its item counts, and touches no other thread's. So it does with the
+/// sum of all ranks, which is at most 20 for each thread and 8 more when a rendezvous begins.
 pub fn ranks_fall()
     ensures one { RanksFall }
     ensures together { AllRanksFall }

@@ -10,7 +10,7 @@ use Rattle.rendezvous_steps.specs.Plan.{Plan}
 use Rattle.rendezvous_model.specs.Outcome.{Outcome}
 use Rattle.rendezvous_rule.specs.Ran.{Ran}
 use Rattle.rendezvous_rule.specs.Runs.{RanGrows}
-use Rattle.item_text.specs.Items.{item_line}
+use Rattle.rendezvous_steps.specs.ItemText.{item_line}
 use Rattle.machine_steps.specs.declared.answers.HotAnswer.{HotAnswer}
 use Rattle.machine_steps.specs.declared.answers.HotAnswer.TheVariants as hot
 use Rattle.machine_steps.specs.declared.states.Power.TheVariants.{On}

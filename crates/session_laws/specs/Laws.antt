@@ -1,7 +1,7 @@
 -- What holds of every command of a session.
 use Rattle.std.specs.Prelude.{◌≡◌, ◌≢◌, ℕ, ◌≤◌, Bool, true, false}
 use Rattle.rendezvous_rule.specs.Runs.{RanGrows}
-use Rattle.item_text.specs.Items.{item_line}
+use Rattle.rendezvous_steps.specs.ItemText.{item_line}
 use Rattle.script_text.specs.declared.command.Command.{Command}
 use Rattle.script_text.specs.declared.command.Command.TheVariants as command
 use Rattle.session_text.specs.declared.answers.CommandAnswer.{CommandAnswer}

@@ -2,7 +2,7 @@
 ghost use Rattle.std.specs.Prelude.{◌≡◌, ◌+◌, ◌≤◌, ◌++◌, length};
 ghost use Rattle.uc_io.specs.Writing.{Writes};
 ghost use Rattle.report_text.specs.Lines.{safe_text};
-ghost use Rattle.item_text.specs.Items.{result_text};
+ghost use Rattle.rendezvous_steps.specs.ItemText.{result_text};
 ghost use Rattle.session_text.specs.Lines.{up_line, written_text, load_offer_line, end_text, cpu_line, core_line};
 ghost use Rattle.session_steps.specs.Did.{ups_text};
 

@@ -8,7 +8,7 @@ use Rattle.uc_topology.specs.Stated.{IsPartition}
 use Rattle.file_reads.specs.Reads.{Read, AreHeld}
 use Rattle.file_reads.proofs.Outcomes.{held_nil, held_append}
 use Rattle.rendezvous_rule.specs.Runs.{RunOf, AlwaysRuns}
-use Rattle.item_text.specs.Items.{item_line}
+use Rattle.rendezvous_steps.specs.ItemText.{item_line}
 use Rattle.script_text.specs.declared.command.Command.{Command}
 use Rattle.session_text.specs.declared.answers.CommandAnswer.{CommandAnswer}
 use Rattle.session_text.specs.declared.answers.SessionAnswer.{SessionAnswer}

@@ -14,7 +14,7 @@ use Rattle.rendezvous_model.specs.Verdict.{Verdict, LoadVerdict}
 use Rattle.rendezvous_model.specs.Verdict as verdict
 use Rattle.rendezvous_rule.specs.Ran.{Ran}
 use Rattle.rendezvous_rule.specs.Runs.{RunOf}
-use Rattle.item_text.specs.Items.{item_line}
+use Rattle.rendezvous_steps.specs.ItemText.{item_line}
 use Rattle.machine_steps.specs.declared.states.Power.TheVariants.{On}
 use Rattle.machine_steps.specs.declared.answers.HotAnswer.{HotAnswer}
 use Rattle.machine_steps.specs.declared.answers.HotAnswer.TheVariants.{Booted}

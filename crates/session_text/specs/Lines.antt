@@ -4,7 +4,7 @@ use Rattle.uc_bytes.specs.declared.causes.FileFault.{FileFault}
 use Rattle.uc_text.specs.Digits.{hex8_of}
 use Rattle.rendezvous_steps.specs.declared.ends.End.{End}
 use Rattle.rendezvous_steps.specs.declared.ends.End.TheVariants as ends
-use Rattle.item_text.specs.Items.{result_text}
+use Rattle.rendezvous_steps.specs.ItemText.{result_text}
 use Rattle.machine_steps.specs.declared.answers.HotAnswer.{HotAnswer}
 use Rattle.machine_steps.specs.declared.answers.HotAnswer.TheVariants as hot
 use Rattle.machine_steps.specs.declared.bring_ups.BringUp.{BringUp}

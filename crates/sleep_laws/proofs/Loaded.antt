@@ -17,7 +17,7 @@ use Rattle.rendezvous_rule.specs.Shown.{shown_by}
 use Rattle.rendezvous_rule.specs.Ran.{Ran, Listed, Unlisted, events_of, revision_after_go}
 use Rattle.rule_laws.proofs.Safety.{ruled_is_safe}
 use Rattle.play_laws.specs.Lawful.{Lawful, EventLaw, OpeningIsLawful}
-use Rattle.item_text.specs.Items.{item_line}
+use Rattle.rendezvous_steps.specs.ItemText.{item_line}
 use Rattle.region_steps.specs.Region.{Patches, width, blocks_of, lowest_run}
 use Rattle.region_steps.proofs.Changed.{put_other}
 use Rattle.region_steps.proofs.Covered.{begins_no_patch}

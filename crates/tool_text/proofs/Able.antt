@@ -18,7 +18,7 @@ use Rattle.rendezvous_model.specs.Verdict as verdict
 use Rattle.round_laws.specs.Laws.{VerdictIsOne}
 use Rattle.play_laws.specs.Stuck.{IsEnough}
 use Rattle.play_laws.specs.Patient.{NoneRefuses, PatientIsDone}
-use Rattle.item_text.specs.Items.{item_line}
+use Rattle.rendezvous_steps.specs.ItemText.{item_line}
 use Rattle.machine_steps.specs.declared.answers.HotAnswer.{HotAnswer}
 use Rattle.machine_steps.specs.declared.answers.HotAnswer.TheVariants as hot
 use Rattle.machine_steps.specs.declared.states.Power.TheVariants.{On}

@@ -17,7 +17,7 @@ use Rattle.rendezvous_runs.specs.Play.{is_over, play, last_moment}
 use Rattle.rendezvous_runs.proofs.Play.{item_of, play_over, play_next, last_moment_over, last_moment_next, last_moment_is}
 use Rattle.play_laws.specs.Runs.{RunsHold, items_of, state_at}
 use Rattle.play_laws.proofs.Over.{over_none, goes_on_some}
-use Rattle.item_text.specs.Items.{item_line}
+use Rattle.rendezvous_steps.specs.ItemText.{item_line}
 use Rattle.tool_text.specs.Headline.{SafeItems}
 
 not_over : (plan : Plan) (m : Running) → 0 < unfinished_count plan (shown_by plan m) → is_over plan m ≡ false

@@ -14,7 +14,7 @@ use Rattle.rendezvous_model.specs.Outcome.{Outcome}
 use Rattle.rendezvous_model.specs.Verdict.{Verdict, LoadVerdict}
 use Rattle.rendezvous_model.specs.Verdict as verdict
 use Rattle.rendezvous_rule.specs.Runs.{RunOf}
-use Rattle.item_text.specs.Items.{item_line}
+use Rattle.rendezvous_steps.specs.ItemText.{item_line}
 use Rattle.play_laws.specs.Lawful.{Lawful}
 use Rattle.play_laws.specs.Runs.{RunsHold, MomentsAreLawful}
 use Rattle.play_laws.specs.Outcomes.{EndedLaw}

@@ -8,7 +8,7 @@ use Rattle.rendezvous_steps.specs.declared.ends.Beat.{Beat}
 use Rattle.rendezvous_rule.specs.Runs.{RunOf, RanGrows}
 use Rattle.play_laws.specs.Runs.{RunsHold, MomentsAreLawful}
 use Rattle.play_laws.specs.Outcomes.{EndedLaw}
-use Rattle.item_text.specs.Items.{item_line}
+use Rattle.rendezvous_steps.specs.ItemText.{item_line}
 use Rattle.machine_steps.specs.declared.answers.HotAnswer.{HotAnswer}
 use Rattle.machine_steps.specs.declared.answers.HotAnswer.TheVariants as hot
 use Rattle.machine_steps.specs.Hardware.{Hardware}

@@ -19,7 +19,7 @@ use Rattle.file_reads.specs.Reads.{Read, AreHeld}
 use Rattle.file_reads.proofs.Outcomes.{held_nil, held_one, held_cons}
 use Rattle.report_text.specs.Lines.{topology_line}
 use Rattle.play_laws.proofs.Exist.{always_runs}
-use Rattle.item_text.specs.Items.{item_line}
+use Rattle.rendezvous_steps.specs.ItemText.{item_line}
 use Rattle.script_text.specs.declared.command.Command.{Command}
 use Rattle.script_text.specs.declared.command.Command.TheVariants as command
 use Rattle.script_text.specs.declared.fault.ScriptCause.{ScriptCause}

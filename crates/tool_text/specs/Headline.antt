@@ -26,7 +26,7 @@ use Rattle.rendezvous_model.specs.Outcome.{Outcome, OutcomeShows}
 use Rattle.rendezvous_model.specs.Verdict.{end_at}
 use Rattle.rendezvous_rule.specs.Ran.{Unlisted, events_of}
 use Rattle.rendezvous_rule.specs.Runs.{RunOf}
-use Rattle.item_text.specs.Items.{item_line}
+use Rattle.rendezvous_steps.specs.ItemText.{item_line}
 use Rattle.script_text.specs.declared.command.Command.{Command}
 use Rattle.script_text.specs.declared.command.Command.TheVariants as command
 use Rattle.session_text.specs.declared.answers.CommandAnswer.TheVariants as answer

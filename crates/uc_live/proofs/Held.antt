@@ -5,10 +5,10 @@ use Rattle.uc_io.specs.Writing.{Grew}
 use Rattle.rendezvous_steps.specs.declared.ends.Beat.{Beat}
 use Rattle.rendezvous_steps.specs.Plan.{Plan}
 use Rattle.rendezvous_rule.specs.Runs.{RunOf}
-use Rattle.ctl_core.specs.declared.outcomes.Outcome.{Outcome as Tables}
-use Rattle.ctl_core.specs.declared.runs.RunAnswer.{RunAnswer}
-use Rattle.ctl_core.specs.declared.runs.RunAnswer.TheVariants.{WriteFault, NoMemory}
-use Rattle.ctl_core.specs.Runs.{IsRun}
+use Rattle.uc_rendezvous.specs.declared.outcomes.Outcome.{Outcome as Tables}
+use Rattle.uc_rendezvous.specs.declared.runs.RunAnswer.{RunAnswer}
+use Rattle.uc_rendezvous.specs.declared.runs.RunAnswer.TheVariants.{WriteFault, NoMemory}
+use Rattle.uc_rendezvous.specs.Runs.{IsRun}
 use Rattle.uc_live.specs.Runs.{HeldTo}
 
 module _ {D : Type 0} (stands : D → List ℕ → Type 0) (faults : D → ℕ) (plan : Plan) (beats : List Beat) (before after' : List RunOf) (sink : D) where

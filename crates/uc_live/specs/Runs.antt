@@ -4,10 +4,10 @@ use Rattle.rendezvous_steps.specs.Plan.{Plan}
 use Rattle.rendezvous_model.specs.Outcome.{Outcome}
 use Rattle.rendezvous_rule.specs.Ran.{Unlisted}
 use Rattle.rendezvous_rule.specs.Runs.{RunOf}
-use Rattle.ctl_core.specs.declared.outcomes.Outcome.{Outcome as Tables}
-use Rattle.ctl_core.specs.declared.runs.RunAnswer.{RunAnswer}
-use Rattle.ctl_core.specs.declared.runs.RunAnswer.TheVariants.{WriteFault, NoMemory}
-use Rattle.ctl_core.specs.Outcomes.{outcome_of}
+use Rattle.uc_rendezvous.specs.declared.outcomes.Outcome.{Outcome as Tables}
+use Rattle.uc_rendezvous.specs.declared.runs.RunAnswer.{RunAnswer}
+use Rattle.uc_rendezvous.specs.declared.runs.RunAnswer.TheVariants.{WriteFault, NoMemory}
+use Rattle.uc_rendezvous.specs.Outcomes.{outcome_of}
 use Rattle.ctl_table.specs.declared.closed.Closed.{Closed}
 use Rattle.ctl_table.specs.Closes.{closed_plan, closed_outcome, was_late}
 use Rattle.uc_live.specs.declared.runs.LiveRun.{LiveRun}

@@ -16,6 +16,3 @@ mod workers;
 
 pub use gates::{Gate, OpenGate, Point};
 pub use runs::LiveRun;
-
-#[cfg(test)]
-mod tests;

@@ -2,20 +2,20 @@
 
 ghost use Rattle.std.specs.Prelude.{◌≡◌, ◌≤◌, false, []};
 ghost use Rattle.ctl_words.specs.Plans.{plan_of, IsSound};
-ghost use Rattle.item_text.specs.Items.{item_line as line_of};
+ghost use Rattle.rendezvous_steps.specs.ItemText.{item_line as line_of};
 ghost use Rattle.play_laws.proofs.Exist.{always_runs as runs_always, ran_grows};
-ghost use Rattle.ctl_core.specs.Outcomes.{came_to};
+ghost use Rattle.uc_rendezvous.specs.Outcomes.{came_to};
 ghost use Rattle.uc_live.specs.Runs.{runs_of, HeldTo};
 
 use crate::chains::work_all;
 use crate::gates::{Gate, OpenGate};
-use ctl_core::{Rendezvous, RunAnswer};
 use ctl_table::{Bay, Closed, Outcome, Plan};
 use rendezvous_steps::Beat;
 use std::alloc::Global;
 use std::sync::Wait;
 use std::thread::Threads;
 use uc_io::Sink;
+use uc_rendezvous::{Rendezvous, RunAnswer};
 
 /// Lets a worker step each thread of a plan, and keeps what each run came to.
 #[derive(Drop)]
@@ -38,8 +38,8 @@ impl<'g, G, R> LiveRun<'g, G, R> {
 }
 
 impl<G: Gate + Sync, R: Threads + Wait> LiveRun<'_, G, R> {
-    /// Runs the rendezvous of a plan, and makes the outcome that is lent that of a closed bay of this plan, which it keeps. All
-    /// memory is taken before the first step. It answers want of memory, and never a write fault.
+    /// Runs the rendezvous of a plan, and makes the outcome that is lent that of a closed bay of this plan, which it
+    /// keeps. All memory is taken before the first step. It answers want of memory, and never a write fault.
     pub fn hold(
         &mut self,
         alloc: Global,

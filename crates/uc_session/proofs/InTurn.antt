@@ -7,7 +7,7 @@ use Rattle.uc_io.specs.Faults.{Rose}
 use Rattle.uc_topology.specs.Stated.{Machine, IsPartition}
 use Rattle.file_reads.specs.Reads.{Read, AreHeld}
 use Rattle.rendezvous_rule.specs.Runs.{AlwaysRuns}
-use Rattle.item_text.specs.Items.{item_line}
+use Rattle.rendezvous_steps.specs.ItemText.{item_line}
 use Rattle.script_text.specs.declared.command.Command.{Command}
 use Rattle.script_text.specs.declared.command.Command.TheVariants as command
 use Rattle.script_text.specs.Within.{fits_command}

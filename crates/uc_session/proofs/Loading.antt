@@ -13,7 +13,7 @@ use Rattle.rendezvous_model.specs.Verdict.{Verdict, LoadVerdict}
 use Rattle.rendezvous_rule.specs.Runs.{RunOf, RanGrows}
 use Rattle.round_laws.specs.Laws.{VerdictHolds}
 use Rattle.play_laws.specs.Lawful.{EventLaw, OpeningIsLawful}
-use Rattle.item_text.specs.Items.{item_line}
+use Rattle.rendezvous_steps.specs.ItemText.{item_line}
 use Rattle.machine_steps.specs.Hardware.{Hardware, is_on}
 use Rattle.machine_steps.specs.Puts.{Puts}
 use Rattle.script_text.specs.declared.command.Command.TheVariants.{Load}
@@ -30,12 +30,12 @@ use Rattle.command_laws.proofs.Outcomes.{RanLeaves, ran_leaves}
 use Rattle.session_parts.specs.Loads.{IsPut}
 use Rattle.ctl_words.specs.declared.plans.Plan.{Plan as Tables}
 use Rattle.ctl_words.specs.Plans.{plan_of, IsSound}
-use Rattle.ctl_core.specs.declared.outcomes.Outcome.{Outcome as OutcomeTables}
-use Rattle.ctl_core.specs.declared.runs.RunAnswer.{RunAnswer}
-use Rattle.ctl_core.specs.Outcomes.{outcome_of}
+use Rattle.uc_rendezvous.specs.declared.outcomes.Outcome.{Outcome as OutcomeTables}
+use Rattle.uc_rendezvous.specs.declared.runs.RunAnswer.{RunAnswer}
+use Rattle.uc_rendezvous.specs.Outcomes.{outcome_of}
 use Rattle.uc_session.specs.Acts.{Stage}
 use Rattle.uc_session.specs.Loads.{Ready, SetsOut}
-use Rattle.ctl_core.specs.Runs.{RunOutside, RunTraces}
+use Rattle.uc_rendezvous.specs.Runs.{RunOutside, RunTraces}
 use Rattle.uc_session.specs.Meeting.{CameTo, Meets, cut_short}
 use Rattle.uc_session.specs.Playing.{Does}
 use Rattle.uc_session.proofs.Behind.{come}

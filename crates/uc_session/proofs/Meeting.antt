@@ -14,7 +14,7 @@ use Rattle.rendezvous_model.specs.Verdict as verdict
 use Rattle.rendezvous_rule.specs.Ran.{Ran}
 use Rattle.rendezvous_rule.specs.Runs.{RunOf, SomeRun}
 use Rattle.round_laws.specs.Laws.{VerdictHolds}
-use Rattle.item_text.specs.Items.{item_line}
+use Rattle.rendezvous_steps.specs.ItemText.{item_line}
 use Rattle.machine_steps.specs.Puts.{Puts}
 use Rattle.script_text.specs.declared.command.Command.{Command}
 use Rattle.script_text.specs.declared.command.Command.TheVariants as command
@@ -30,10 +30,10 @@ use Rattle.session_steps.specs.Step.{SessionStep, LoadRow, AllPresent, ReadAll, 
 use Rattle.session_steps.specs.Calls.{Outside, Situation}
 use Rattle.session_steps.specs.Played.{is_read_fault, FileCause, ran_once}
 use Rattle.session_parts.specs.Boots.{puts_of}
-use Rattle.ctl_core.specs.declared.outcomes.Outcome.{Outcome as Tables}
-use Rattle.ctl_core.specs.declared.runs.RunAnswer.{RunAnswer}
-use Rattle.ctl_core.specs.declared.runs.RunAnswer.TheVariants as run
-use Rattle.ctl_core.specs.Runs.{RunOutside, RunTraces, IsRun}
+use Rattle.uc_rendezvous.specs.declared.outcomes.Outcome.{Outcome as Tables}
+use Rattle.uc_rendezvous.specs.declared.runs.RunAnswer.{RunAnswer}
+use Rattle.uc_rendezvous.specs.declared.runs.RunAnswer.TheVariants as run
+use Rattle.uc_rendezvous.specs.Runs.{RunOutside, RunTraces, IsRun}
 use Rattle.uc_session.specs.Meeting.{CameTo, CutShort, Meets, cut_short}
 use Rattle.uc_session.specs.Playing.{told_of, Follows, Does}
 use Rattle.uc_session.proofs.Behind as playing

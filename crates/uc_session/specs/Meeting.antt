@@ -8,14 +8,14 @@ use Rattle.rendezvous_steps.specs.Plan.{Plan}
 use Rattle.rendezvous_model.specs.Outcome.{Outcome}
 use Rattle.rendezvous_rule.specs.Ran.{Ran}
 use Rattle.rendezvous_rule.specs.Runs.{SomeRun}
-use Rattle.item_text.specs.Items.{item_line}
+use Rattle.rendezvous_steps.specs.ItemText.{item_line}
 use Rattle.session_text.specs.declared.answers.Played.{Played}
 use Rattle.session_text.specs.declared.answers.Played.TheVariants as played
-use Rattle.ctl_core.specs.declared.outcomes.Outcome.{Outcome as Tables}
-use Rattle.ctl_core.specs.declared.runs.RunAnswer.{RunAnswer}
-use Rattle.ctl_core.specs.declared.runs.RunAnswer.TheVariants.{WriteFault, NoMemory}
-use Rattle.ctl_core.specs.Outcomes.{outcome_of}
-use Rattle.ctl_core.specs.Runs.{RunOutside, RunTraces}
+use Rattle.uc_rendezvous.specs.declared.outcomes.Outcome.{Outcome as Tables}
+use Rattle.uc_rendezvous.specs.declared.runs.RunAnswer.{RunAnswer}
+use Rattle.uc_rendezvous.specs.declared.runs.RunAnswer.TheVariants.{WriteFault, NoMemory}
+use Rattle.uc_rendezvous.specs.Outcomes.{outcome_of}
+use Rattle.uc_rendezvous.specs.Runs.{RunOutside, RunTraces}
 
 -- the rendezvous came to an outcome: what is offered was written, and then the text of the run
 pub record CameTo {D : Type 0} (outside : RunOutside D) (plan : Plan) (beats : List Beat) (offered : List ℕ) (before now : RunTraces D) (outcome : Outcome) : Type 0 where

@@ -13,7 +13,7 @@ ghost use Rattle.session_steps.specs.Did.{results_text};
 ghost use Rattle.session_steps.specs.Calls.{HeldWhere};
 ghost use Rattle.machine_steps.specs.Puts.{Puts};
 ghost use Rattle.ctl_words.specs.Plans.{plan_of, IsSound};
-ghost use Rattle.ctl_core.specs.Outcomes.{outcome_of, came_to};
+ghost use Rattle.uc_rendezvous.specs.Outcomes.{outcome_of, came_to};
 ghost use Rattle.session_parts.specs.Parts.{setting_of, state_of};
 ghost use Rattle.uc_session.specs.Meeting.{Meets, cut_short};
 ghost use Rattle.uc_session.specs.Playing.{Does};

@@ -4,7 +4,7 @@ ghost use Rattle.std.specs.Prelude.{◌≡◌, ◌+◌, ◌-◌, ◌<◌, ◌≤
 ghost use Rattle.rendezvous_model.specs.Verdict.{end_at, load_verdict, lowest, some_updated, withdrawn_count};
 ghost use Rattle.session_steps.specs.Step.{answer_of};
 ghost use Rattle.ctl_words.specs.Plans.{plan_of};
-ghost use Rattle.ctl_core.specs.Outcomes.{outcome_of};
+ghost use Rattle.uc_rendezvous.specs.Outcomes.{outcome_of};
 ghost use Rattle.uc_session.specs.Verdicts.{answered, passes, IsVerdict};
 
 use ctl_core::Outcome;

@@ -1,7 +1,7 @@
 //! Loads whose workers a gate holds.
 
 ghost use Rattle.std.specs.Prelude.{false};
-ghost use Rattle.item_text.specs.Items.{item_line as line_of};
+ghost use Rattle.rendezvous_steps.specs.ItemText.{item_line as line_of};
 ghost use Rattle.play_laws.proofs.Exist.{always_runs as runs_always, ran_grows};
 ghost use Rattle.uc_live.specs.Runs.{runs_of};
 

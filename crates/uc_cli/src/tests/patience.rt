@@ -1,5 +1,5 @@
 ghost use Rattle.std.specs.Prelude.{true, []};
-ghost use Rattle.item_text.specs.Items.{item_line as line_of};
+ghost use Rattle.rendezvous_steps.specs.ItemText.{item_line as line_of};
 ghost use Rattle.play_laws.proofs.Exist.{always_runs as runs_always, ran_grows};
 
 use super::*;

@@ -3,7 +3,7 @@ use Rattle.std.proofs.lemmas.Result.{err_from_is_err_and}
 use Rattle.uc_io.specs.declared.sinks.SinkFailed.{SinkFailed}
 use Rattle.uc_io.specs.Writing.{Writes}
 use Rattle.ctl_words.specs.Plans.{plan_of}
-use Rattle.ctl_core.specs.Outcomes.{came_to}
+use Rattle.uc_rendezvous.specs.Outcomes.{came_to}
 use Rattle.session_steps.specs.Offers.{load_offers_text}
 use Rattle.uc_session.proofs.Meeting.{not_offered, they_met}
 use Rattle.uc_session.proofs.loads.offer_and_run.Goals as goal

@@ -19,7 +19,7 @@ use Rattle.session_steps.specs.Calls.{Outside, HeldWhere, Situation}
 use Rattle.session_parts.specs.Parts.{setting_of, state_of}
 use Rattle.session_parts.specs.Loads.{IsPut}
 use Rattle.ctl_words.specs.Plans.{plan_of}
-use Rattle.ctl_core.specs.Outcomes.{outcome_of}
+use Rattle.uc_rendezvous.specs.Outcomes.{outcome_of}
 use Rattle.uc_topology.specs.Stated.{Machine, group_count}
 use Rattle.uc_session.specs.Acts.{Stage}
 use Rattle.uc_session.specs.Loads.{ready_of, Refuses, Stops}

@@ -1,6 +1,6 @@
 use Rattle.std.proofs.Common.{◌≡◌}
 use Rattle.ctl_words.specs.Plans.{plan_of}
-use Rattle.ctl_core.specs.Outcomes.{outcome_of}
+use Rattle.uc_rendezvous.specs.Outcomes.{outcome_of}
 use Rattle.uc_session.specs.Verdicts.{lowest_from, passes}
 use Rattle.uc_session.proofs.verdicts.lowest.Given as goal
 

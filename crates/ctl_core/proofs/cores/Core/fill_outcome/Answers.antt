@@ -1,5 +1,5 @@
 use Rattle.std.proofs.Common.{◌∙◌}
-use Rattle.ctl_core.proofs.Shown.{decide_shown}
+use Rattle.uc_rendezvous.proofs.Shown.{decide_shown}
 use Rattle.ctl_core.proofs.cores.Core.fill_outcome.Goals as goal
 
 pub returns : goal.returns

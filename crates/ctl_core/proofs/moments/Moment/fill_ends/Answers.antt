@@ -3,7 +3,7 @@ use Rattle.std.proofs.lemmas.List.FromFn.{length-map-range_with_len, map-range_w
 use Rattle.rendezvous_steps.specs.declared.ends.End.{End}
 use Rattle.ctl_words.specs.Plans.{plan_of}
 use Rattle.ctl_words.specs.Lists.{word_of}
-use Rattle.ctl_core.specs.Moments.{end_in}
+use Rattle.uc_rendezvous.specs.Ends.{end_in}
 use Rattle.ctl_core.proofs.moments.Moment.fill_ends.Goals as goal
 
 pub push-requires : goal.push-requires

@@ -2,7 +2,7 @@ use Rattle.std.proofs.Common.{◌≡◌, map}
 use Rattle.std.specs.List.{range_with_len}
 use Rattle.ctl_words.specs.Plans.{plan_of}
 use Rattle.ctl_words.specs.Lists.{word_of}
-use Rattle.ctl_core.specs.Moments.{end_in}
+use Rattle.uc_rendezvous.specs.Ends.{end_in}
 use Rattle.ctl_core.proofs.moments.Moment.fill_ends.Given as goal
 
 -- those of the threads so far

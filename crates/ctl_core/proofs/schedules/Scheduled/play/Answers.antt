@@ -1,7 +1,7 @@
 use Rattle.std.proofs.Common.{◌∙◌}
 use Rattle.std.proofs.lemmas.Result.{err_from_is_err_and}
 use Rattle.ctl_words.specs.Plans.{plan_of}
-use Rattle.ctl_core.specs.Outcomes.{outcome_of}
+use Rattle.uc_rendezvous.specs.Outcomes.{outcome_of}
 use Rattle.ctl_core.proofs.Plays.{played_at, shows_at}
 use Rattle.ctl_core.proofs.schedules.Scheduled.play.Goals as goal
 

@@ -1,7 +1,7 @@
 use Rattle.std.proofs.Common.{◌≡◌}
 use Rattle.ctl_words.specs.Plans.{plan_of}
 use Rattle.ctl_words.proofs.TablesEnd.{padded}
-use Rattle.ctl_core.specs.Outcomes.{came_to}
+use Rattle.uc_rendezvous.specs.Outcomes.{came_to}
 use Rattle.ctl_core.proofs.Listing.{schedule_is_run, on_came}
 use Rattle.ctl_core.proofs.schedules.ScheduledRendezvous.run.Goals as goal
 

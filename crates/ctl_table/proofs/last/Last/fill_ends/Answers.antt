@@ -1,7 +1,7 @@
 use Rattle.std.proofs.Common.{ℕ, ◌++◌, [], ◌∷◌, length, ap, sym, ◌∙◌, arith}
 use Rattle.std.proofs.lemmas.List.FromFn.{length-map-range_with_len, map-range_with_len_more}
 use Rattle.rendezvous_steps.specs.declared.ends.End.{End}
-use Rattle.ctl_core.specs.Moments.{end_in}
+use Rattle.uc_rendezvous.specs.Ends.{end_in}
 use Rattle.ctl_table.specs.Lasts.{plan_at, words_at}
 use Rattle.ctl_table.proofs.last.Last.fill_ends.Goals as goal
 

@@ -1,7 +1,7 @@
 use Rattle.std.proofs.Common.{◌≡◌, ◌≤◌, map}
 use Rattle.std.specs.Vec.{vec_capacity}
 use Rattle.std.specs.List.{range_with_len}
-use Rattle.ctl_core.specs.Moments.{end_in}
+use Rattle.uc_rendezvous.specs.Ends.{end_in}
 use Rattle.ctl_table.specs.Lasts.{plan_at, words_at}
 use Rattle.ctl_table.proofs.last.Last.fill_ends.Given as goal
 

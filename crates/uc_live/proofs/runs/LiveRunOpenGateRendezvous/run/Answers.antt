@@ -1,5 +1,5 @@
 use Rattle.ctl_words.specs.Plans.{plan_of}
-use Rattle.ctl_core.specs.Outcomes.{came_to}
+use Rattle.uc_rendezvous.specs.Outcomes.{came_to}
 use Rattle.uc_live.proofs.Held.{held_is_run}
 use Rattle.uc_live.proofs.runs.LiveRunOpenGateRendezvous.run.Goals as goal
 

@@ -1,9 +1,0 @@
-use Rattle.std.proofs.Common.{true}
-use Rattle.plain_rounds.proofs.Changes.{latched_changed, Fits-latched}
-use Rattle.plain_rounds.proofs.rounds.Rounds.latch.Goals as goal
-
-pub returns-clause-state : goal.returns-clause-state
-returns-clause-state c = rw c.set_latched.ensures (latched_changed _ _ c.args.thread true c.requires.fits c.requires.in_range)
-
-pub returns-clause-fits : goal.returns-clause-fits
-returns-clause-fits c = rw c.set_latched.ensures (Fits-latched _ _ c.args.thread true c.requires.fits)

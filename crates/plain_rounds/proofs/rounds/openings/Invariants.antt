@@ -1,9 +1,0 @@
-use Rattle.std.proofs.Common.{◌≡◌, map}
-use Rattle.std.specs.List.{range_with_len}
-use Rattle.rendezvous_steps.specs.StepTable.{opening}
-use Rattle.ctl_words.specs.Plans.{plan_of}
-use Rattle.plain_rounds.proofs.rounds.openings.Given as goal
-
--- the threads so far stand where they begin
-abbrev pub invariant-loop-thread : goal.invariant-loop-thread
-invariant-loop-thread l = l.locals.items ≡ map (opening (plan_of l.plan)) (range_with_len 0 l.thread)
