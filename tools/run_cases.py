@@ -17,9 +17,9 @@ FITS = "sig 0x906ea flags 0x2"
 SCRIPT = "ucode-script 1\n"
 
 
-def update(rev=0xF0, flags=2, least=0, data=16):
-    """An update for the signature 0x906ea, of 2023-07-11, whose data are zeros and whose words sum to 0."""
-    words = [1, rev, 0x07112023, 0x000906EA, 0, 1, flags, data, 48 + data, 0, least, 0] + data // 4 * [0]
+def update(rev=0xF0, flags=2, least=0, data=16, date=0x07112023):
+    """An update for the signature 0x906ea whose data are zeros and whose words sum to 0."""
+    words = [1, rev, date, 0x000906EA, 0, 1, flags, data, 48 + data, 0, least, 0] + data // 4 * [0]
     words[4] = -sum(words) % 2**32
     return struct.pack(f"<{len(words)}I", *words)
 
@@ -28,6 +28,16 @@ def container(sig, row_id, patch_id, length=64, table=16):
     """A container with one row in a table of so many bytes, and one patch of revision 0x0a20102b and zeros."""
     head = struct.pack("<7I", 0x00414D44, 0, table, sig, 0, 0, row_id).ljust(12 + table, b"\0")
     return head + struct.pack("<9I", 1, length, 0, 0x0A20102B, 0, 0, 0, 0, patch_id).ljust(8 + length, b"\0")
+
+
+def patches(rows, ids, table=None):
+    """A container with these rows, signatures with ids, in a table of so many bytes, and a patch of 64 bytes for each id."""
+    words = [number for sig, row_id in rows for number in (sig, 1, 2, row_id)]
+    held = struct.pack(f"<{len(words)}I", *words)
+    held = struct.pack("<3I", 0x00414D44, 0, table or len(held)) + held[:table]
+    for place, number in enumerate(ids):
+        held += struct.pack("<9I", 1, 64, 3, 0x05000029 + place, 4, 5, 0, 0, number).ljust(72, b"\6")
+    return held
 
 
 def cores(*facts, vendor=INTEL, threads=1):
@@ -46,7 +56,13 @@ HIGH = cores(FITS + " rev 0x80000000")
 PACKAGES = ("ucode-topology 2\nvendor intel\n"
             + "".join(f"core {c} package {c // 2} {FITS} rev 0xb4\n" for c in range(3))
             + "".join(f"cpu {c} core {c}\n" for c in range(3)))
-FILES = {"a": update(), "b": update(0xF4), "d": update(data=2000), "h": update(0x800000F0, least=0xB4), "short": b"short"}
+# Two packages of three cores, with comments, tabs, CRs and both spellings of numbers.
+MIXED = ("# two packages\r\n\r\nucode-topology\t2\r\n vendor amd\r\ncore 0 package 0 sig 0x00A20F12 flags 0 rev 4294967295\n"
+         "core 1 package 1 sig 0xffffffff flags 0xffffffff rev 0xffffffff\n"
+         "core 2 package 0 sig 10620690 flags 0 rev 0xFFFFFFFF\n"
+         "cpu 0 core 1\n#\ncpu 1 core 0x2\ncpu 2 core 0\ncpu 3 core 2\r")
+FILES = {"a": update(), "b": update(0xF4), "d": update(data=2000), "h": update(0x800000F0, least=0xB4), "short": b"short",
+         "m": update(least=0xB4), "n": update(least=0xB5), "bm": update(0xF4) + update(least=0xB4)}
 
 # A container's row and patch, how long the patch is, and how it is listed: its id, its family, and its signature.
 LISTED = [
@@ -55,8 +71,66 @@ LISTED = [
     (0x00800F22, 0x8022, 9000, "00008022", "17", True), (0x00A00F22, 0xA022, 9000, "0000a022", "19", True),
     (0x00000F48, 0x0F48, 9000, "00000f48", "0f", True),
 ]
-# The id of a row, the signature of a core, and whether it is offered a patch of the id 0x1022 for 0x100f22.
-SERVED = [(0x1022, 0x00100F22, True), (0x2022, 0x00100F22, False), (0x1022, 0x10100F22, False)]
+# Dates, mmddyyyy in binary-coded decimal, and the days that they name.
+DATES = [
+    (0x07112023, "2023-07-11"), (0x12319999, "9999-12-31"), (0x01010000, "0000-01-01"), (0x02292024, "2024-02-29"),
+    (0x02292000, "2000-02-29"), (0x02292023, "-"), (0x02291900, "-"), (0x04302023, "2023-04-30"), (0x04312023, "-"),
+    (0x01322023, "-"), (0x13012023, "-"), (0x00012023, "-"), (0x01002023, "-"), (0x0A112023, "-"), (0xA1112023, "-"),
+    (0x070A2023, "-"), (0x07A12023, "-"), (0x07112A23, "-"), (0x0711202A, "-"), (0x071120A3, "-"),
+]
+# Rows of a table, the ids of the patches behind it, and for each of these the signatures that it is for: those whose first
+# row has its id, and none for the id 0.
+ROWS = [
+    ([(0x00500F10, 0x77775010), (0x00500F11, 0x5011), (0x00500F10, 0x5011), (0x00500F12, 0x5010), (0x00500F11, 0x5010),
+      (0x00500F13, 0x77770000), (0x00500F13, 0x5010)], [0x77775010, 0], [[0x00500F10, 0x00500F12], []]),
+    ([(0x00500F10, 0x5000), (0x00100F21, 0x1020), (0x00500F10, 0x1020), (0x00100F20, 0x1020), (0, 0), (0x00100F23, 0),
+      (0x00100F23, 0x1020)], [0x1020, 0x5000, 0x1021], [[0x00100F21, 0x00100F20], [0x00500F10], []]),
+]
+# The length of a table of which two rows begin, and how many of them it has.
+LENGTHS = [(16, 1), (17, 1), (31, 1), (32, 2)]
+# Rows of a table, the id of the patch behind it, the signature of a core, and whether the core is offered the patch.
+SERVED = [
+    ([(0x00100F22, 0x1022)], 0x1022, 0x00100F22, True), ([(0x00200F22, 0x2022)], 0x2022, 0x00200F22, True),
+    ([(0x00300F22, 0x3022)], 0x3022, 0x00300F22, True), ([(0x00500F22, 0x5022)], 0x5022, 0x00500F22, True),
+    ([(0x00600F22, 0x6022)], 0x6022, 0x00600F22, True), ([(0x00A20F12, 0xA212)], 0xA212, 0x00A20F12, True),
+    ([(0x00F00F22, 0xF022)], 0xF022, 0x00F00F22, True), ([(0x00000F48, 0x0F48)], 0x0F48, 0x00000F48, False),
+    ([(0x00400F22, 0x4022)], 0x4022, 0x00400F22, False), ([(0x00100F22, 0x2022)], 0x2022, 0x00100F22, False),
+    ([(0x00000022, 0x1022)], 0x1022, 0x00000022, False), ([(0x00100F23, 0x1022)], 0x1022, 0x00100F22, False),
+    ([(0x00100F22, 0x1023)], 0x1022, 0x00100F22, False), ([(0x00000F22, 0)], 0, 0x00000F22, False),
+    ([(0, 0), (0x00100F22, 0x1022)], 0x1022, 0x00100F22, True),
+    ([(0x00100F23, 0x1022), (0x00100F22, 0x1022)], 0x1022, 0x00100F22, True),
+    ([(0x00100F22, 0x1023), (0x00100F22, 0x1022)], 0x1022, 0x00100F22, False),
+    ([(0x00100F22, 0), (0x00100F22, 0x1022)], 0x1022, 0x00100F22, False),
+    ([(0x10100F22, 0x1022)], 0x1022, 0x00100F22, False), ([(0x00100F22, 0x1022)], 0x1022, 0x10100F22, False),
+    ([(0x001F0F22, 0x1022)], 0x1022, 0x001F0F22, True), ([(0x0010F0FF, 0x0022)], 0x0022, 0x0010F0FF, False),
+    ([(0x00200E22, 0x1022)], 0x1022, 0x00200E22, False), ([(0x01100F22, 0x1022)], 0x1022, 0x01100F22, False),
+    ([(0x00000F22, 0x0022)], 0x0022, 0x00000F22, False), ([(0x00500F22, 0x0022)], 0x0022, 0x00500F22, False),
+]
+# Updates of one file, by their revisions, flags and minima, the facts of a core, and what it is offered.
+F0, F4, HIGHEST, SEEN = (0xF0, 2, 0), (0xF4, 2, 0), (0x800000F0, 2, 0), "sig 0x906ea flags 2 rev 0xb4"
+OFFERED = [
+    ([F0, F0], SEEN, "0 rev 0x000000f0"), ([F0, F4, F0, F4], SEEN, "1 rev 0x000000f4"),
+    ([F4, (0xF0, 0, 0)], "sig 0x906ea flags 0 rev 0xb4", "1 rev 0x000000f0"),
+    ([F4], "sig 0x906ea flags 0 rev 0xb4", "none"), ([F4], "sig 0x906ea flags 2 rev 0xf4", "none"),
+    ([F4], "sig 0x906ea flags 2 rev 0xf3", "0 rev 0x000000f4"), ([F4, HIGHEST], SEEN, "1 rev 0x800000f0"),
+    ([F4, HIGHEST], "sig 0x906ea flags 2 rev 0x80000000", "1 rev 0x800000f0"),
+    ([F4, HIGHEST], "sig 0x906ea flags 2 rev 0x800000f0", "none"), ([F4], "sig 0x906eb flags 2 rev 0xb4", "none"),
+    ([(0xF0, 2, 0xB4)], "sig 0x906ea flags 2 rev 0xb3", "0 rev 0x000000f0"),
+    ([(0xF0, 2, 0xB4)], SEEN, "0 rev 0x000000f0 safe"), ([(0xF0, 2, 0xB5)], SEEN, "0 rev 0x000000f0"),
+    ([(0xF0, 2, 0xB5)], "sig 0x906ea flags 2 rev 0xb5", "0 rev 0x000000f0 safe"),
+    ([(0x800000F0, 2, 0xB5)], "sig 0x906ea flags 2 rev 0x80000000", "0 rev 0x800000f0 safe"),
+    ([F4, (0xF0, 2, 0xB4)], SEEN, "0 rev 0x000000f4"),
+]
+# Processor flags of an update and of a core, and whether the core is offered the update.
+FLAGS = [
+    (0, 0, True), (0, 1, False), (1, 0, False), (1, 1, True), (1, 2, False), (0xF0, 0x80, True),
+    (0x80000000, 0x80000000, True), (0x7FFFFFFF, 0x80000000, False),
+]
+# Signatures and processor flags of cores, and whether the update with a table is for them.
+BY_TABLE = [
+    (0x000906EA, 2, True), (0x000906EB, 2, True), (0x000906EC, 0x20, True), (0x000906EC, 2, True), (0x000906EC, 4, False),
+    (0x000906EB, 0x20, False), (0x000906ED, 2, False),
+]
 # A machine, the commands of a script, the status, and the last lines.
 SESSIONS = [
     (ONE, "boot\nload a short\n*28\nend\nboot\n", 2, "command 2 load\nanswer bad-file short at 0 short\n"),
@@ -90,10 +164,28 @@ SESSIONS = [
      "command 2 boot\nup 0 rev 0x000000f0 wrote\nup 1 rev 0x000000f0 wrote\nanswer done\n"),
     (alike(2, 2), "boot\noffline 2\nsuspend\nresume\nload a\n*80\nend\n", 3,
      "up 3 rev 0x000000b4\nanswer done\ncommand 5 load\nanswer busy 2\n"),
+    (ONE, "boot\nload-force a\nend\n", 3, "command 2 load-force\nanswer not-found\n"),
+    (ONE, "boot\nload-force n\nend\n", 3, "command 2 load-force\nanswer not-found\n"),
+    (ONE, "boot\nload n\nend\n", 3, "command 2 load\noffer core 0 entry 0 len 64 rev 0x000000f0\n"
+     "cpu 0 unfinished\ncore 0 rev 0x000000b4\nanswer unfinished 0\n"),
+    (ONE, "boot\nload-force m\nend\n", 3, "command 2 load-force\noffer core 0 entry 0 len 64 rev 0x000000f0 safe\n"
+     "cpu 0 unfinished\ncore 0 rev 0x000000b4\nanswer unfinished 0\n"),
+    (ONE, "boot\nload-force bm\nend\n", 3, "command 2 load-force\noffer core 0 entry 1 len 64 rev 0x000000f0 safe\n"
+     "cpu 0 unfinished\ncore 0 rev 0x000000b4\nanswer unfinished 0\n"),
+    (ONE, "boot\nload bm\nend\n", 3, "command 2 load\noffer core 0 entry 0 len 64 rev 0x000000f4\n"
+     "cpu 0 unfinished\ncore 0 rev 0x000000b4\nanswer unfinished 0\n"),
+    (MIXED, "boot\noffline 1\nload a\nend\nonline 1\noffline 2\nload a\nend\nonline 2\noffline 3\nload a\nend\n", 3,
+     "up 3 rev 0xffffffff\nanswer done\ncommand 2 offline 1\nanswer done\ncommand 3 load\nanswer busy 1\n"
+     "command 4 online 1\nup 1 rev 0xffffffff\nanswer done\ncommand 5 offline 2\nanswer done\n"
+     "command 6 load\nanswer busy 2\ncommand 7 online 2\nup 2 rev 0xffffffff\nanswer done\n"
+     "command 8 offline 3\nanswer done\ncommand 9 load\nanswer not-found\n"),
 ]
 # An update of 108 bytes whose table has the pairs (0x906eb, 2) and (0x906ec, 0x22).
 WITH_TABLE = struct.pack("<27I", 1, 0xF0, 0x07112023, 0x000906EA, 0xF8E5D783, 1, 2, 16, 108, 0, 0, 0, 0, 0, 0, 0, 2,
                          0x0E224320, 0, 0, 0, 0x000906EB, 2, 0xF8E5D782, 0x000906EC, 0x22, 0xF8E5D761)
+# An update of 64 bytes, no two of whose words are alike but the two that have to be 1.
+DISTINCT = struct.pack("<16I", 1, 0xB4, 0x07112023, 0x000906EA, 0xF8E5D75A, 1, 0x22, 16, 64, 0x30, 0x15, 0x2C, 0x70000,
+                       0xFFF90000, 0, 0)
 
 
 def lists():
@@ -107,6 +199,27 @@ def lists():
     line = "11 at 704 len 64 rev 0x000000f0 date 2023-07-11 sig 0x000906ea flags 0x00000002\n"
     yield ["list", "y"], {"y": 12 * update()}, 0, "file 0 y intel 12\n", line
     yield ["list", 255 * "n"], {}, 4, "error read ", f"error read {255 * 'n'}\n"
+    for date, day in DATES:
+        text = f"file 0 y intel 1\n0 at 0 len 64 rev 0x000000f0 date {day} sig 0x000906ea flags 0x00000002\n"
+        yield ["list", "y"], {"y": update(date=date)}, 0, text, text
+    text = ("file 0 x intel 1\n0 at 0 len 108 rev 0x000000f0 date 2023-07-11 sig 0x000906ea flags 0x00000002\n"
+            "  pair 0x000906eb 0x00000002\n  pair 0x000906ec 0x00000022\n")
+    yield ["list", "x"], {"x": WITH_TABLE}, 0, text, text
+    text = ("file 0 e intel 0\nfile 1 y intel 1\n0 at 0 len 64 rev 0x000000b4 date 2023-07-11 sig 0x000906ea "
+            "flags 0x00000022 min 0x00000015\n")
+    for rows, ids, served in ROWS:
+        files, told = {"e": b"", "y": DISTINCT, "z": patches(rows, ids)}, text + f"file 2 z amd {len(ids)}\n"
+        for place, (number, sigs) in enumerate(zip(ids, served)):
+            half = number & 0xFFFF
+            told += (f"{place + 1} at {20 + 16 * len(rows) + 72 * place} len 64 rev {0x05000029 + place:#010x} "
+                     f"id {half:#010x} family {0x0F + (half >> 12):#010x}\n")
+            told += "".join(f"  sig {sig:#010x}\n" for sig in sigs)
+        yield ["list", "e", "y", "z"], files, 0, told, told
+    for length, count in LENGTHS:
+        rows = [(0x00A20F10, 0xA210), (0x00A20F12, 0xA210)]
+        text = (f"file 0 y amd 1\n0 at {20 + length} len 64 rev 0x05000029 id 0x0000a210 family 0x00000019\n"
+                + "".join(f"  sig {sig:#010x}\n" for sig, _ in rows[:count]))
+        yield ["list", "y"], {"y": patches(rows, [0xA210], length)}, 0, text, text
 
 
 def selections():
@@ -117,10 +230,38 @@ def selections():
     text = "core 0 rev 0x000000b4 offer 0 rev 0x000000f0\ncore 1 rev 0x000000b4 offer none\n"
     differ = cores(FITS + " rev 0xb4", "sig 0x906ea flags 0x4 rev 0xb4").encode()
     yield ["select", "t", "a"], {**FILES, "t": differ}, 0, text, text
-    for row_id, sig, serves in SERVED:
-        files = {"y": container(0x00100F22, row_id, 0x1022), "t": cores(f"sig {sig:#x} flags 0 rev 1", vendor=AMD).encode()}
-        text = "core 0 rev 0x00000001 offer " + ("0 rev 0x0a20102b\n" if serves else "none\n")
-        yield ["select", "t", "y"], files, 0, text, text
+    for rows, number, sig, serves in SERVED:
+        facts = [f"sig {sig:#x} flags 0 rev 1", f"sig {sig:#x} flags 0 rev 0x05000029"]
+        for vendor, offer in ((AMD, "0 rev 0x05000029" if serves else "none"), (INTEL, "none")):
+            files = {"y": patches(rows, [number]), "t": cores(*facts, vendor=vendor).encode()}
+            text = f"core 0 rev 0x00000001 offer {offer}\ncore 1 rev 0x05000029 offer none\n"
+            yield ["select", "t", "y"], files, 0, text, text
+    for updates, facts, offer in OFFERED:
+        files = {"y": b"".join(update(*one) for one in updates), "t": cores(facts).encode()}
+        yield ["select", "t", "y"], files, 0, "core 0 rev ", f" offer {offer}\n"
+    yield ["select", "t", "b"], {**FILES, "t": cores(SEEN, vendor=AMD).encode()}, 0, "core 0 rev ", " offer none\n"
+    for flags, others, serves in FLAGS:
+        files = {"y": update(flags=flags), "t": cores(f"sig 0x906ea flags {others} rev 0xb4").encode()}
+        offer = "0 rev 0x000000f0" if serves else "none"
+        yield ["select", "t", "y"], files, 0, "core 0 rev 0x000000b4 ", f" offer {offer}\n"
+    for sig, flags, serves in BY_TABLE:
+        offer = "0 rev 0x000000f0" if serves else "none"
+        files = {"x": WITH_TABLE, "t": cores(f"sig {sig:#x} flags {flags:#x} rev 0xb4").encode()}
+        yield ["select", "t", "x"], files, 0, "core 0 rev 0x000000b4 ", f" offer {offer}\n"
+    for rows, ids, served in ROWS:
+        sigs = sorted({sig for sig, _ in rows} | {0x00500F14})
+        told = "".join(f"core {c} rev 0x00000001 offer " + next(
+            (f"{place} rev {0x05000029 + place:#010x}\n" for place, named in enumerate(served) if sig in named), "none\n")
+            for c, sig in enumerate(sigs))
+        topology = cores(*[f"sig {sig:#x} flags 0 rev 1" for sig in sigs], vendor=AMD).encode()
+        yield ["select", "t", "y"], {"y": patches(rows, ids), "t": topology}, 0, told, told
+    two = container(0x00A20F10, 0xA210, 0xA210) + container(0x00A20F12, 0xA210, 0xA210)
+    topology = cores("sig 0xa20f12 flags 0 rev 1", "sig 0xa20f10 flags 0 rev 1", vendor=AMD).encode()
+    text = "core 0 rev 0x00000001 offer 1 rev 0x0a20102b\ncore 1 rev 0x00000001 offer 0 rev 0x0a20102b\n"
+    yield ["select", "t", "y"], {"y": two, "t": topology}, 0, text, text
+    text = ("core 0 rev 0xffffffff offer none\ncore 1 rev 0xffffffff offer none\n"
+            "core 2 rev 0xffffffff offer none\n")
+    yield ["select", "t", "y"], {"y": two, "t": MIXED.encode()}, 0, text, text
 
 
 def sessions():

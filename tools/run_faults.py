@@ -35,6 +35,26 @@ UPDATES = [
     ({17: 0x0E22431F, 26: 0xF8E5D762, 1: 0xF1}, 108, "0 entry-sum 1"),
     ({17: 0x0E22431E, 23: 0xF8E5D783, 26: 0xF8E5D762}, 108, "0 entry-sum 0"),
     ({1: 0xF1}, 108, "0 sum"), ({12: 1}, 108, "0 sum"), ({15: 0x80000000}, 108, "0 sum"),
+    # sizes at their bounds, and two neighbouring checks that both fail
+    ({4: 0xF8E5D7AF, 8: 64}, 64, None), ({8: 60}, 108, "0 data-past-total"), ({7: 20, 8: 64}, 108, "0 data-past-total"),
+    ({4: 0xF8E5D7C7, 7: 4, 8: 52}, 52, None), ({7: 4, 8: 0}, 108, "0 total-small"),
+    ({4: 0xF8E5D7FC, 7: 0, 8: 3}, 2048, None), ({0: 2, 7: 0, 8: 0}, 48, "0 version"),
+    ({7: 2000, 8: 2052}, 2051, "0 truncated"), ({7: 2000, 8: 2052}, 2052, "0 ext-cut"),
+    ({7: 1}, 108, "0 size-unaligned"), ({7: 2}, 108, "0 size-unaligned"), ({7: 3}, 108, "0 size-unaligned"),
+    ({8: 109}, 109, "0 size-unaligned"), ({8: 110}, 110, "0 size-unaligned"), ({8: 111}, 111, "0 size-unaligned"),
+    ({7: 0xFFFFFFCC, 8: 0xFFFFFFFC}, 108, "0 truncated"), ({7: 0xFFFFFFD0, 8: 0xFFFFFFFC}, 108, "0 data-past-total"),
+    ({7: 4, 8: 43}, 108, "0 size-unaligned"), ({0: 2, 7: 8, 8: 44}, 108, "0 total-small"),
+    ({0: 2, 5: 2, 7: 8, 8: 52}, 108, "0 data-past-total"), ({0: 2, 5: 2, 7: 1, 8: 0}, 47, "0 short"),
+    ({}, 155, "108 short"),
+    # tables of no entry, of one, and with words that count in the sum alone
+    ({8: 84, 16: 0, 17: 1}, 84, "0 ext-sum"), ({4: 0xF8E5D79B, 8: 84, 16: 0, 17: 0xFFFFFFFF, 18: 1}, 84, None),
+    ({8: 84, 16: 0xFFFFFFFF, 17: 1}, 84, "0 ext-count"), ({8: 88, 16: 0}, 88, "0 ext-count"),
+    ({8: 96, 16: 0}, 96, "0 ext-count"), ({8: 96, 16: 2}, 96, "0 ext-count"),
+    ({4: 0xF8E5D78F, 8: 96, 16: 1, 17: 0x07112184, 23: 0xF8E5D78E}, 96, None),
+    ({8: 96, 16: 1, 17: 0x07112191}, 96, "0 ext-sum"),
+    ({8: 96, 16: 1, 17: 0x0711218F, 22: 3}, 96, "0 entry-sum 0"),
+    ({20: 5, 17: 0x0E22431B}, 108, None), ({22: 3, 23: 0xF8E5D781}, 108, None),
+    ({17: 0x8E224320, 22: 0x80000002}, 108, "0 entry-sum 0"),
 ]
 # A container of 116 bytes: its head, a row and a row of zeros, a section's head, and a patch of 64 bytes.
 MAGIC = 0x00414D44
@@ -62,9 +82,36 @@ CONTAINERS = [
     ({16: 1, 20: 1}, 116, None), ({}, 117, "116 section-short"), ({}, 124, "116 section-type"),
     ({11: MAGIC}, 47, "44 section-short"), ({11: MAGIC}, 48, "44 equiv-short"),
     ({11: MAGIC, 12: 1}, 56, "44 equiv-type"), ({11: MAGIC, 12: 0, 13: 15}, 56, "44 table-small"),
+    ({11: MAGIC, 12: 0, 13: 16}, 72, None), ({1: 0x100}, 116, "0 equiv-type"), ({2: 16}, 12, "0 table-cut"),
+    ({2: 17}, 29, None), ({11: 0x101}, 116, "44 section-type"), ({18: 0x80000000}, 116, "44 chipset"),
+    ({12: 1824, 17: 1, 19: 0x5000}, 1876, "44 chipset"), ({12: 1825, 17: 1, 19: 0x5000}, 1877, "44 family-size"),
+]
+# Ids of patches with the halves of words behind them, lengths of their patches, and whether these pass a bound.
+BOUNDED = [
+    (0x0000, 2049, False), (0x0FFF, 2049, False), (0x1000, 2048, False), (0x1000, 2049, True), (0x1FFF, 2049, True),
+    (0x2031, 2048, False), (0x2031, 2049, True), (0x3010, 2048, False), (0x3010, 2049, True), (0x3FFF, 2049, True),
+    (0x4000, 2049, False), (0x5020, 1824, False), (0x5020, 1825, True), (0x5FFF, 2048, True), (0x6012, 2049, False),
+    (0x7310, 3458, False), (0x8012, 3200, False), (0xA201, 5568, False), (0xFFFF, 2049, False),
+    (0xFFFF0FFF, 2049, False),
+]
+# What begins a file of four bytes or fewer, and why it is refused.
+FRONTS = [
+    (b"DMA", "0 short"), (b"DMA\0", "0 equiv-short"), (b"DMB\0", "0 short"), (b"DMA\1", "0 short"), (b"\0AMD", "0 short"),
+]
+# Where two containers of 116 bytes are cut off: the first length of a range, and what holds up to the next one.
+CUTS = [
+    (1, "0 short"), (4, "0 equiv-short"), (12, "0 table-cut"), (44, None), (45, "44 section-short"), (52, "44 patch-cut"),
+    (116, None), (117, "116 section-short"), (120, "116 equiv-short"), (128, "116 table-cut"), (160, None),
+    (161, "160 section-short"), (168, "160 patch-cut"), (232, None),
+]
+# Words of a 65,537th section, its length, and why it is refused: by a check of its own before the last.
+BEHIND_ALL = [
+    ({6: 1}, 72, "chipset"), ({1: 1825, 8: 0x5000}, 1833, "family-size"), ({1: 63}, 72, "patch-small"),
+    ({}, 72, "too-many"),
 ]
 HEAD = "ucode-topology 1\nvendor intel\n"
-PACKAGES = "ucode-topology 2\nvendor intel\ncore 0 package 0 sig 1 flags 2 rev 3\n"
+HEAD_2 = "ucode-topology 2\nvendor intel\n"
+PACKAGES = HEAD_2 + "core 0 package 0 sig 1 flags 2 rev 3\n"
 CORE = "core 0 sig 0x906ea flags 0x2 rev 0xb4\n"
 CPU = "cpu 0 core 0\n"
 # Topologies, and at which line and why they are refused, if they are.
@@ -87,6 +134,31 @@ TOPOLOGIES = [
     (PACKAGES + "core 1 package 65536 sig 1 flags 2 rev 3\n", "4 number"),
     (PACKAGES + "core 1 package 65535 sig 1 flags 2 rev 3\n", "4 order"),
     (PACKAGES + "core 1 package 1 sig 4 flags 5 rev 6\ncpu 0 core 0\ncpu 1 core 1\n", None),
+    ("\n# ucode-topology 1\n", "0 head"), ("\nucode-topology 01\n", "2 head"), ("ucode-topology 1", "0 word"),
+    (HEAD + "vendor intel\n", "3 word"), (HEAD + "core x sig 0 flags 0 rev 0 0\n", "3 word"),
+    (HEAD + "core 0 package 0 sig 0 flags 0 rev 0\n", "3 word"), (HEAD_2 + "core 0 sig 0 flags 0 rev 0\n", "3 word"),
+    (HEAD + "core 65536 sig 0 flags 0 rev\n", "3 word"), (HEAD + "core 1 sig 0 flags 0 rev 0x100000000\n", "3 number"),
+    (HEAD + "core 0 sig 0 flags 4294967296 rev 0\n", "3 number"), (HEAD + "core 0 sig 0 flags 0 rev -1\n", "3 number"),
+    (HEAD + "core 0 sig 0xffffffff flags 0xffffffff rev 0xffffffff\n", "0 empty-core"),
+    (HEAD + "core 1 sig 0 flags 0 rev 0\n", "3 order"), (HEAD + "cpu 1 core 9\n", "3 order"),
+    (HEAD + "cpu 0 core 0\n", "3 no-core"), (HEAD + "cpu 0 core 65536\n", "3 number"),
+    (HEAD + CORE + "cpu 0 core 65535\n", "4 no-core"), (HEAD + CORE + "cpu 0 core 65536\n", "4 number"),
+    (HEAD + CORE + "core 1 sig 0 flags 0 rev 0\ncpu 0 core 1\n", "0 empty-core"),
+    (HEAD_2 + "core 0 package 1 sig 0 flags 0 rev 0\n", "3 order"),
+    (HEAD_2 + "core 0 package 65535 sig 0 flags 0 rev 0\n", "3 order"),
+    (HEAD_2 + "core 0 package 65536 sig 0 flags 0 rev 0\n", "3 number"),
+    (PACKAGES + "core 2 package 0 sig 9 flags 2 rev 3\n", "4 order"),
+    (PACKAGES + "core 1 package 1 sig 4 flags 5 rev 6\n", "0 empty-core"),
+    # lines and words: one CR at the end of a line is dropped, also of the last, and a second belongs to a word
+    (HEAD + "\r\n" + CORE + CPU[:-1] + "\r", None), (HEAD + "\r\n\n" + CORE + CPU[:-1] + "\r\r", "6 number"),
+    (HEAD + CORE[:-1] + "\r\r\n" + CPU, "3 number"), (HEAD + CORE + "cpu 0\rcore 0\n", "4 word"),
+    (HEAD + CORE + "cpu 0\vcore 0\n", "4 word"),
+]
+# How a number may be spelled, with its value, or None where it is no number of 64 bits.
+SPELLINGS = [
+    ("0", 0), ("0049", 49), ("18446744073709551615", 2**64 - 1), ("18446744073709551616", None), ("0x0", 0),
+    ("0x906eA", 0x906EA), ("0x0000ffffFFFFffffFFFF", 2**64 - 1), ("0x10000000000000000", None), ("", None),
+    ("0x", None), ("0X1", None), ("x1", None), ("12a", None), ("0x1g", None), ("+1", None), ("1 ", None),
 ]
 SCRIPT = "ucode-script 1\n"
 # Scripts for one core with one thread, and at which line and why they are refused, if they are.
@@ -111,6 +183,10 @@ SCRIPTS = [
     (SCRIPT + 4096 * "accept 0\n" + "accept 1\n", "4098 range"),
     (SCRIPT + 4096 * "accept 0\n" + "load a\n", "4098 too-many"),
     (SCRIPT + "load a\n" + 64 * "*65535\n" + "*65 s1\nend\n", "67 range"),
+    (SCRIPT + "load a\ns0 *65535\tt000  n0\nend\n", None), (SCRIPT + "load a\nt007\nend\n", "3 range"),
+    (SCRIPT + "load a\nn400000010\nend\n", "3 range"), (SCRIPT + "load a\nr4000000000\nend\n", "3 range"),
+    (SCRIPT + "load a\nr12a\nend\n", "3 number"), (SCRIPT + "load a\nx9\nend\n", "3 word"),
+    (SCRIPT + "load a\nq\nend\n", "3 word"),
 ]
 
 
@@ -130,12 +206,31 @@ def file_cases():
     for words, cases in ((UPDATE, UPDATES), (CONTAINER, CONTAINERS)):
         for changes, length, fault in cases:
             yield ["list", "f"], {"f": changed(words, changes, length)}, 2 if fault else 0, text_of("file f at", fault)
+    for front, fault in FRONTS:
+        yield ["list", "f"], {"f": front}, 2, text_of("file f at", fault)
+    for number, length, passes in BOUNDED:
+        file = changed(CONTAINER, {12: length, 19: number}, 52 + length)
+        yield ["list", "f"], {"f": file}, 2 if passes else 0, text_of("file f at", "44 family-size" if passes else None)
+    for length in range(1, 108):
+        fault = "0 short" if length < 48 else "0 truncated"
+        yield ["list", "f"], {"f": changed(UPDATE, {}, length)}, 2, text_of("file f at", fault)
+    both = changed(CONTAINER, {}, 116) + changed(CONTAINER, {3: 0x00A20F12, 14: 0x0A201210}, 116)
+    for length in range(1, 233):
+        fault = [fault for begin, fault in CUTS if begin <= length][-1]
+        yield ["list", "f"], {"f": both[:length]}, 2 if fault else 0, text_of("file f at", fault)
     update = changed(UPDATE, {8: 64, 4: 0xF8E5D7AF}, 64)
     head, section = changed(CONTAINER, {2: 16}, 28), changed(CONTAINER[11:], {}, 72)
     for one, most, front, place in ((update, 65536, b"", 0), (section, 65536, head, 28)):
         yield ["list", "f"], {"f": front + most * one}, 0, None
         fault = f"{place + most * len(one)} too-many"
         yield ["list", "f"], {"f": front + (most + 1) * one}, 2, text_of("file f at", fault)
+    all_sections = head + 65536 * section
+    for changes, length, fault in BEHIND_ALL:
+        file = all_sections + changed(CONTAINER[11:], changes, length)
+        yield ["list", "f"], {"f": file}, 2, text_of("file f at", f"{len(all_sections)} {fault}")
+    yield ["list", "f"], {"f": all_sections + head}, 0, None
+    fault = f"{len(all_sections) + 28} too-many"
+    yield ["list", "f"], {"f": all_sections + head + section}, 2, text_of("file f at", fault)
 
 
 def text_cases():
@@ -174,8 +269,9 @@ def limit_cases():
     yield ["list", *17 * ["e"]], files, 1, b"usage 17\n"
     yield ["select", "t", *16 * ["e"]], files, 0, None
     yield ["select", "t", *17 * ["e"]], files, 1, b"usage 18\n"
-    yield ["show", "e", "18446744073709551615"], files, 2, b"error entry 18446744073709551615\n"
-    yield ["show", "e", "18446744073709551616"], files, 1, b"usage 2\n"
+    for word, value in SPELLINGS:
+        text = b"usage 2\n" if value is None else f"error entry {value}\n".encode()
+        yield ["show", "e", word], files, 1 if value is None else 2, text
     yield ["gen", "18446744073709551616"], files, 1, b"usage 1\n"
 
 

@@ -9,6 +9,3 @@ mod row;
 mod search;
 
 pub use index::RowIndex;
-
-#[cfg(test)]
-mod tests;

@@ -9,6 +9,3 @@ mod table;
 pub use fault::ExtFault;
 pub use so_far::{TableSoFar, begin_table};
 pub use table::{ExtTable, read_table};
-
-#[cfg(test)]
-mod tests;

@@ -3,6 +3,7 @@ pub mod Failing
 pub mod Faults
 pub mod Gathering
 pub mod Host
+pub mod Leaving
 pub mod Limits
 pub mod Memory
 pub mod Pieces

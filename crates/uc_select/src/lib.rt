@@ -9,6 +9,3 @@ mod fit;
 pub use choice::{fill_offers, offer, offers};
 pub use file_entries::CoreFacts;
 pub use fit::{fits, is_safe};
-
-#[cfg(test)]
-mod tests;

@@ -8,6 +8,3 @@ mod print;
 pub use lines::{Line, Lines, Marked, Words};
 pub use numbers::number;
 pub use print::{dec, hex8};
-
-#[cfg(test)]
-mod tests;

@@ -12,6 +12,3 @@ pub use fault::{TopoCause, TopoFault};
 pub use reading::{each_text_reads_one_way, read_topology};
 pub use tables::{Core, GroupFacts};
 pub use topology::Topology;
-
-#[cfg(test)]
-mod tests;

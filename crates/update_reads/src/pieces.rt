@@ -1,5 +1,6 @@
 //! The pieces of an open update file, which are fed to a catalogue.
 ghost use Rattle.std.specs.Prelude.{◌≡◌, ◌+◌, ◌<◌, ◌≤◌, ◌++◌, ℕ, List, None, IfOk, length};
+ghost use Rattle.uc_io.specs.Leaving.{LeavesFiles};
 ghost use Rattle.uc_catalog.specs.Contents.{with_coming, fed_of, Comes};
 ghost use Rattle.uc_bytes.specs.declared.TheConstants.{FILE_LIMIT as MOST};
 ghost use Rattle.update_reads.specs.Fed.{HasCome, ArePiecesFed, IsUpdateEnded};
@@ -46,9 +47,7 @@ pub fn feed_pieces<F: Files>(
     ensures answer { ArePiecesFed (F.tells files.old) (F.left files.old) (F.faults files.old) (F.faults files.new)
         catalog.new result }
     ensures kept { catalog.new ≡ with_coming catalog.new.coming catalog.old }
-    ensures same { F.holds files.new ≡ F.holds files.old }
-    ensures still { F.tells files.old → F.tells files.new }
-    ensures later { F.faults files.old ≤ F.faults files.new }
+    ensures leaves { LeavesFiles F.holds F.tells F.faults files.old files.new }
 {
     let mut came = 0;
     let mut fault = None;

@@ -1,4 +1,5 @@
 ghost use Rattle.std.specs.Prelude.{◌≡◌, ◌<◌, ◌≤◌, IfOk, length};
+ghost use Rattle.uc_io.specs.Leaving.{LeavesFiles};
 ghost use Rattle.uc_catalog.specs.Contents.{no_files};
 ghost use Rattle.update_reads.specs.Reading.{IsUpdateRead, AreFilesRead};
 
@@ -20,9 +21,7 @@ pub fn read_update<F: Files>(
 ) -> Result<(), UpdateAnswer>
     requires { length catalog.old.files < 16 }
     ensures answer { IsUpdateRead (F.tells files.old) (F.holds files.old name.now) (F.faults files.old) (F.faults files.new) catalog.old catalog.new result }
-    ensures same { F.holds files.new ≡ F.holds files.old }
-    ensures still { F.tells files.old → F.tells files.new }
-    ensures later { F.faults files.old ≤ F.faults files.new }
+    ensures leaves { LeavesFiles F.holds F.tells F.faults files.old files.new }
 {
     catalog.drop_file();
     match files.open_file(alloc, name.as_str()) {
@@ -52,9 +51,7 @@ pub fn read_files<F: Files>(
     requires empty { catalog ≡ no_files catalog.keeps }
     ensures answer { AreFilesRead (F.tells files.old) names.now (F.holds files.old) (F.faults files.old) (F.faults files.new) result }
     ensures keeps { IfOk result (λ read. read.keeps ≡ catalog.keeps) }
-    ensures same { F.holds files.new ≡ F.holds files.old }
-    ensures still { F.tells files.old → F.tells files.new }
-    ensures later { F.faults files.old ≤ F.faults files.new }
+    ensures leaves { LeavesFiles F.holds F.tells F.faults files.old files.new }
 {
     let mut place: u16 = 0;
     'names: for name in names {

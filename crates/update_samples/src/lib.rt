@@ -16,6 +16,3 @@ pub use updates::{
     HEADER, SMALL, SmallUpdate, WITH_TABLE, large_update, push_update, update_without_sizes,
 };
 pub use words::{bytes_of, push_words};
-
-#[cfg(test)]
-mod tests;

@@ -27,8 +27,8 @@ names-preserved g c =
     slice_get_read c.args.names.now (length c.args.names.now)
     c.names.name-index c.name-item.result refl (omega (arith, c.names-test.true)) c.name-item.is in
     record {
-      same = c.in-Ok.ensures.same ∙ c.names.invariant.same;
-      still = λ tell. c.in-Ok.ensures.still (c.names.invariant.still tell);
+      same = c.in-Ok.ensures.leaves.same ∙ c.names.invariant.same;
+      still = λ tell. c.in-Ok.ensures.leaves.still (c.names.invariant.still tell);
       place = omega (arith, c.names.invariant.place);
       count = answer.0 ∙ c.names.invariant.count;
       keeps = answer.1.3.keeps ∙ c.names.invariant.keeps;
