@@ -27,7 +27,7 @@ use Rattle.session_steps.specs.Session.{is_done}
 use Rattle.session_laws.specs.Standing.{Standing, InRange, OpeningStands, StepsStand}
 use Rattle.session_laws.specs.Lent.{LoadsLend}
 use Rattle.session_laws.proofs.Parts.{something_is_on}
-use Rattle.session_runs.specs.SoFar.{StepsTo}
+use Rattle.cut_laws.specs.SoFar.{StepsTo}
 use Rattle.sleep_laws.specs.PowerUp.{at_power_up, IsBacked}
 use Rattle.sleep_laws.specs.Sleep.{asleep_since, SleepsSince, SuspendsSleep, SleepGoesOn, Resumes, refuses_patch, BroughtBack, ResumesBringBack}
 use Rattle.sleep_laws.proofs.Coming.{IsIn, is_in, cold_where, stay, comes, comes_up}

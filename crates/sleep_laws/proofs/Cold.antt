@@ -28,7 +28,7 @@ use Rattle.session_steps.specs.Session.{is_done}
 use Rattle.session_laws.specs.Standing.{Standing, InRange, OpeningStands, StepsStand}
 use Rattle.session_laws.specs.Lent.{LoadsLend}
 use Rattle.session_laws.proofs.Parts.{warm_takes_part}
-use Rattle.session_runs.specs.SoFar.{StepsTo}
+use Rattle.cut_laws.specs.SoFar.{StepsTo}
 use Rattle.sleep_laws.specs.PowerUp.{at_power_up}
 use Rattle.sleep_laws.specs.Cold.{NoneUp, IsCold, Warms, NoneWarms, ColdGroupsCatchUp}
 use Rattle.sleep_laws.proofs.Coming.{come_to, AreOthers, are_others, cold_where, cold_by, cold_far, comes, others_leave, power_stays}

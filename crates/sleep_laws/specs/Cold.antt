@@ -11,7 +11,7 @@ use Rattle.session_steps.specs.State.{Setting, State, machine_of, cached_patches
 use Rattle.session_steps.specs.Did.{Did}
 use Rattle.session_steps.specs.Step.{SessionStep}
 use Rattle.session_laws.specs.Standing.{InRange}
-use Rattle.session_runs.specs.SoFar.{StepsTo}
+use Rattle.cut_laws.specs.SoFar.{StepsTo}
 use Rattle.sleep_laws.specs.PowerUp.{at_power_up}
 use Rattle.sleep_laws.specs.Sleep.{Resumes}
 
