@@ -41,11 +41,14 @@ pub fn boot(
     ensures answer { let old : State =
         record { hardware = hardware_of machine.old; patches = patches_of pool.old; cached = cached_of cache.old } in
         let new : State =
-            record { hardware = hardware_of machine.new; patches = patches_of pool.new;
-            cached = cached_of cache.new } in
+        record {
+          hardware = hardware_of machine.new;
+          patches = patches_of pool.new;
+          cached = cached_of cache.new;
+        } in
         let row = puts_of (blocks_in pool.old) catalog.now offers.now (patches_of pool.old) in
         MatchResult result (λ ups. IsBooted (setting_of machine.old) row offers.now old new ups.items)
-            (λ answer. IsRefused row (hardware_of machine.old) answer × (new ≡ old)) }
+        (λ answer. IsRefused row (hardware_of machine.old) answer × (new ≡ old)) }
     ensures just_cached { IfOk result
         (λ _. HoldsJustCached (groups_of cache.new) (patches_of pool.new) (cached_of cache.new)) }
     ensures same_setting { setting_of machine.new ≡ setting_of machine.old }

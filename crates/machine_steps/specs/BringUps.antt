@@ -46,7 +46,7 @@ brought hardware t g (Some new) false = record { up = shows t new Wrote; after =
 abbrev pub bring_up : Setting → CachedPatches → Hardware → ℕ → Brought
 bring_up setting patches hardware t =
     brought (with_thread hardware t Up) t (setting.group t) (to_write setting patches hardware (setting.group t))
-        (hardware.refuses (setting.group t))
+    (hardware.refuses (setting.group t))
 
 -- ---- several threads, one after the other
 

@@ -72,7 +72,7 @@ revision_after state outcome g = slice_index_or outcome.revs g (state.hardware.r
 abbrev pub core_text : Setting → State → Outcome → ℕ → List ℕ
 core_text setting state outcome core =
     if core_takes_part setting state core
-        then core_line core (revision_after state outcome (group_of_core setting core)) else []
+    then core_line core (revision_after state outcome (group_of_core setting core)) else []
 
 unfoldable pub results_text : Setting → State → Plan → Outcome → List ℕ
 results_text setting state plan outcome =

@@ -71,7 +71,7 @@ unfoldable pub load_offers_text : Setting → State → List Entry → List (Opt
 load_offers_text setting state entries offers =
     flat_map
     (λ core. offered_text entries core (state.hardware.rev (group_of_core setting core))
-        (offer_of offers (group_of_core setting core)))
+    (offer_of offers (group_of_core setting core)))
     (range_with_len 0 (length setting.machine.stated.cores))
 
 -- The plan. Past the ends of its tables no thread takes part, and no group has an offer.

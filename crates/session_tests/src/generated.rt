@@ -28,7 +28,10 @@ fn files_and_texts_are_those_of_their_number(rt: HostRuntime) -> Result<(), Fail
     for (number, intel, amd, topology, script) in &table {
         assert_eq!(rt; print_of(&make_intel(alloc, *number)?), (1_048_576, *intel));
         assert_eq!(rt; print_of(&make_amd(alloc, *number)?), (5_056, *amd));
-        assert_eq!(rt; print_of(&make_topology(alloc, *number)?), (11_110, *topology));
+        assert_eq!(rt;
+            print_of(&make_topology(alloc, *number)?),
+            (11_110, *topology)
+        );
         assert_eq!(rt; print_of(&make_script(alloc, *number)?), *script);
     }
     Ok(())

@@ -17,7 +17,8 @@ fn a_script_may_be_silent_on_blocks_and_polls(rt: HostRuntime) -> Result<(), Fai
 
 #[test]
 fn a_schedule_may_be_written_in_short_words_or_long_ones(rt: HostRuntime) -> Result<(), Fail> {
-    let text = b"ucode-script 1\npool 0x3\nload a.bin\ns0 t1\tn0\n# s9\n\nr0x1 *2 *109 *65535 s001\nend\r";
+    let text =
+        b"ucode-script 1\npool 0x3\nload a.bin\ns0 t1\tn0\n# s9\n\nr0x1 *2 *109 *65535 s001\nend\r";
     let Ok(script) = read_script(rt.alloc(), text, 2, 1) else {
         return Err(Fail::from("no script"));
     };

@@ -4,8 +4,8 @@ use ctl_words::Plan;
 use rendezvous_steps::{End, Kind};
 use session_report::put_results;
 use std::test::Fail;
-use uc_io::{MemSink, Sink};
 use uc_gen::TallySink;
+use uc_io::{MemSink, Sink};
 use uc_topology::{Topology, read_topology};
 use update_samples::ONE_PACKAGE;
 
@@ -35,7 +35,13 @@ fn written(topology: &Topology, out: &mut MemSink, call: u32) -> Option<usize> {
         return None;
     }
     out.fail_at(call);
-    match put_results(out, topology, &plan_of_four(), &[End::Unfinished; 4], &[0xb4]) {
+    match put_results(
+        out,
+        topology,
+        &plan_of_four(),
+        &[End::Unfinished; 4],
+        &[0xb4],
+    ) {
         Ok(()) => None,
         Err(_) => Some(out.bytes().len()),
     }

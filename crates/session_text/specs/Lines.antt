@@ -43,7 +43,7 @@ up_line up =
 unfoldable pub load_offer_line : ℕ → ℕ → ℕ → EntryFacts → List ℕ
 load_offer_line core rev number facts =
     codes "offer core " ++ decimal core ++ codes " entry " ++ decimal number ++ codes " len " ++ decimal facts.len
-        ++ codes " rev "
+    ++ codes " rev "
     ++ hex8_of facts.rev
     ++ safe_text facts.vendor facts.min rev
     ++ codes "\n"

@@ -22,7 +22,7 @@ sig_for a = 0x00a00f00 + a / 256 * 65536 + a % 256
 unfoldable pub sections : ℕ → ℕ → ℕ → ℕ → List ℕ
 sections number before id count =
     flat_map (λ patch. section_words (0x0a000000 + draw number (before + patch + 1) % 65536) id)
-        (range_with_len 0 count)
+    (range_with_len 0 count)
 
 -- the container that is made behind some draws: a number of 12 bits is drawn, and then the revisions of four patches
 abbrev pub container_words : ℕ → ℕ → List ℕ

@@ -21,7 +21,7 @@ core_flags number core = 2 ^ (draw number (2 * core + 2) % 8)
 abbrev pub core_words : ℕ → ℕ → ℕ → List (List ℕ)
 core_words core sig flags =
     codes "core" ∷ decimal core ∷ codes "sig" ∷ hex8_of sig ∷ codes "flags" ∷ hex8_of flags ∷ codes "rev" ∷ hex8_of 0x80
-        ∷ []
+    ∷ []
 
 abbrev pub core_line : ℕ → ℕ → ℕ → List ℕ
 core_line core sig flags = line_of (core_words core sig flags)

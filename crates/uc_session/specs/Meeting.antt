@@ -42,7 +42,7 @@ Meets outside plan beats offered before now (Ok outcome) =
     CameTo outside plan beats offered before now (outcome_of outcome)
 Meets outside plan beats offered before now (Err WriteFault) =
     CutShort outside plan beats offered before.sink now.sink
-        × Rose (outside.faults before.sink) (outside.faults now.sink)
+    × Rose (outside.faults before.sink) (outside.faults now.sink)
 Meets outside plan beats offered before now (Err NoMemory) =
     CutShort outside plan beats offered before.sink now.sink × (outside.faults now.sink ≡ outside.faults before.sink)
 

@@ -58,9 +58,9 @@ fn offer_and_run<R: Rendezvous, S: Sink>(
     ensures meets { (setting : Setting) (state : State) (puts : Puts) → setting.machine ≡ topology.now →
         plan_of tables.now.plan ≡ load_plan setting state puts tables.now.offers.items → Meets
         (record { stands = S.stands; faults = S.faults; lists = R.lists }) (plan_of tables.now.plan) beats.now
-            (load_offers_text setting state catalog.now.entries tables.now.offers.items)
+        (load_offers_text setting state catalog.now.entries tables.now.offers.items)
         (record { runs = R.runs how.old; sink = out.old }) (record { runs = R.runs how.new; sink = out.new })
-            (came_to outcome.new result) }
+        (came_to outcome.new result) }
     ensures most_stays { R.limit how.new ≡ R.limit how.old }
 {
     tables_end();
@@ -133,8 +133,12 @@ pub fn play_load<R: Rendezvous, F: Files, S: Sink>(
     requires most { (machine_of (setting_of parts.old)).threads ≤ R.limit how.old }
     requires standing { Standing (setting_of parts.old) (state_of parts.old) }
     ensures does { Does
-        (record { stands = S.stands; faults = S.faults; lists = R.lists;
-            held = HeldWhere (F.tells files.old) (F.holds files.old) })
+        (record {
+          stands = S.stands;
+          faults = S.faults;
+          lists = R.lists;
+          held = HeldWhere (F.tells files.old) (F.holds files.old);
+        })
         (setting_of parts.old) (Load force names.now beats.now)
         (record { state = state_of parts.old; files = F.faults files.old; runs = R.runs how.old; sink = out.old })
         (record { state = state_of parts.new; files = F.faults files.new; runs = R.runs how.new; sink = out.new })

@@ -77,8 +77,12 @@ fn play_boot<R: Rendezvous, F: Files, S: Sink>(
     requires few { length names.now ≤ 16 }
     requires standing { Standing (setting_of parts.old) (state_of parts.old) }
     ensures does { Does
-        (record { stands = S.stands; faults = S.faults; lists = R.lists;
-            held = HeldWhere (F.tells files.old) (F.holds files.old) })
+        (record {
+          stands = S.stands;
+          faults = S.faults;
+          lists = R.lists;
+          held = HeldWhere (F.tells files.old) (F.holds files.old);
+        })
         (setting_of parts.old) (Boot names.now)
         (record { state = state_of parts.old; files = F.faults files.old; runs = R.runs how.now; sink = out.old })
         (record { state = state_of parts.new; files = F.faults files.new; runs = R.runs how.now; sink = out.new })
@@ -106,10 +110,10 @@ fn play_plain<S: Sink>(parts: &mut Parts, command: &Command, out: &mut S) -> Pla
     requires standing { Standing (setting_of parts.old) (state_of parts.old) }
     ensures acted { (acted : Done) × (is_read_fault acted.answer ≡ false)
         × ((lists : Bool) →
-            SessionStep lists (setting_of parts.old) (state_of parts.old) command.now
-            (did_by [] acted (state_of parts.new)))
+        SessionStep lists (setting_of parts.old) (state_of parts.old) command.now
+        (did_by [] acted (state_of parts.new)))
         × Tells S.stands S.faults out.old out.new
-            (ups_text acted.ups.items ++ answer_line (names_in command.now) acted.answer)
+        (ups_text acted.ups.items ++ answer_line (names_in command.now) acted.answer)
         acted.answer result }
     ensures setting { setting_of parts.new ≡ setting_of parts.old }
 {
@@ -134,8 +138,12 @@ pub fn play<R: Rendezvous, F: Files, S: Sink>(
     requires most { (machine_of (setting_of parts.old)).threads ≤ R.limit how.old }
     requires standing { Standing (setting_of parts.old) (state_of parts.old) }
     ensures played { IsPlayed
-        (record { stands = S.stands; faults = S.faults; lists = R.lists;
-            held = HeldWhere (F.tells files.old) (F.holds files.old) })
+        (record {
+          stands = S.stands;
+          faults = S.faults;
+          lists = R.lists;
+          held = HeldWhere (F.tells files.old) (F.holds files.old);
+        })
         (setting_of parts.old) number command.now
         (record { state = state_of parts.old; files = F.faults files.old; runs = R.runs how.old; sink = out.old })
         (record { state = state_of parts.new; files = F.faults files.new; runs = R.runs how.new; sink = out.new })

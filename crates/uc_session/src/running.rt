@@ -9,9 +9,9 @@ ghost use Rattle.session_steps.specs.Whole.{IsPlayedThrough, SinkCauseAt};
 use crate::sessions::Session;
 use command_laws::each_command_does_something;
 use ctl_core::Rendezvous;
+use cut_laws::begun_commands_go_on;
 use script_text::Script;
 use session_laws::each_state_stands;
-use cut_laws::begun_commands_go_on;
 use session_text::{CommandAnswer, LoadAnswer, Played, SessionAnswer};
 use std::alloc::Global;
 use uc_io::{Files, Sink};
@@ -56,10 +56,14 @@ pub fn run_session<R: Rendezvous, F: Files, S: Sink>(
     requires within { IsWithin
         (record { threads = length topology.now.stated.threads; cores = length topology.now.stated.cores }) script.now }
     ensures played { IsPlayedThrough
-        (record { stands = S.stands; faults = S.faults; lists = R.lists;
-            held = HeldWhere (F.tells files.old) (F.holds files.old) })
+        (record {
+          stands = S.stands;
+          faults = S.faults;
+          lists = R.lists;
+          held = HeldWhere (F.tells files.old) (F.holds files.old);
+        })
         (record { machine = topology.now; blocks = script.now.pool; patience = script.now.patience })
-            script.now.commands
+        script.now.commands
         (record { files = F.faults files.old; runs = R.runs how.old; sink = out.old })
         (record { files = F.faults files.new; runs = R.runs how.new; sink = out.new })
         result }

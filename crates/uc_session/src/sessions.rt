@@ -118,8 +118,12 @@ impl Session {
         requires beats { BeatsInRange (machine_of (setting_of self.old)).threads command.now }
         requires most { (machine_of (setting_of self.old)).threads ≤ R.limit how.old }
         ensures played { IsPlayed
-            (record { stands = S.stands; faults = S.faults; lists = R.lists;
-                held = HeldWhere (F.tells files.old) (F.holds files.old) })
+            (record {
+              stands = S.stands;
+              faults = S.faults;
+              lists = R.lists;
+              held = HeldWhere (F.tells files.old) (F.holds files.old);
+            })
             (setting_of self.old) number command.now
             (record { state = state_of self.old; files = F.faults files.old; runs = R.runs how.old; sink = out.old })
             (record { state = state_of self.new; files = F.faults files.new; runs = R.runs how.new; sink = out.new })
