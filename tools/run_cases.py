@@ -179,6 +179,18 @@ SESSIONS = [
      "command 4 online 1\nup 1 rev 0xffffffff\nanswer done\ncommand 5 offline 2\nanswer done\n"
      "command 6 load\nanswer busy 2\ncommand 7 online 2\nup 2 rev 0xffffffff\nanswer done\n"
      "command 8 offline 3\nanswer done\ncommand 9 load\nanswer not-found\n"),
+    (ONE, "# a comment\r\n\r\n\tpool 0x1\r\npatience 1\nboot \td\r\n# end\n", 3, "command 1 boot\nanswer pool-full 2\n"),
+    (ONE, "boot\nload a\ns0\ts0 \r\n# s9\n\n*26\nend\r", 0, "cpu 0 updated\ncore 0 rev 0x000000f0\nanswer done\n"),
+    (ONE, "boot\nload-force -b\nend", 4, "command 2 load-force\nanswer read-fault -b\n"),
+    (ONE, 4096 * "accept 00\n", 0, "command 4096 accept 0\nanswer done\n"),
+    (alike(2, 128), "boot\noffline 255\n", 0, "up 255 rev 0x000000b4\nanswer done\ncommand 2 offline 255\nanswer done\n"),
+    (alike(1, 13), "boot\nload a\ns12\nend\n", 3, "command 2 load\noffer core 0 entry 0 len 64 rev 0x000000f0\n12 enter\n"
+     + "".join(f"cpu {t} unfinished\n" for t in range(13)) + "core 0 rev 0x000000b4\nanswer unfinished 0\n"),
+    (alike(2, 2), "pool 1\nboot\nload a\n*80\nend\nload b\n*80\nend\n", 3, "command 3 load\nanswer pool-full 1\n"),
+    (alike(2, 2), "pool 2\nboot\nload a\n*80\nend\nload b\n*80\nend\nload a\nend\n", 3,
+     "core 0 rev 0x000000f4\ncore 1 rev 0x000000f4\nanswer done\ncommand 4 load\nanswer not-found\n"),
+    (alike(2), "pool 2\nboot\nrefuse 0\nrefuse 1\nload d\n*80\nend\naccept 0\nload d\n*80\nend\nload b\n*80\nend\n", 3,
+     "core 0 rev 0x000000f0\ncore 1 rev 0x000000b4\nanswer incomplete 1\ncommand 7 load\nanswer pool-full 1\n"),
 ]
 # An update of 108 bytes whose table has the pairs (0x906eb, 2) and (0x906ec, 0x22).
 WITH_TABLE = struct.pack("<27I", 1, 0xF0, 0x07112023, 0x000906EA, 0xF8E5D783, 1, 2, 16, 108, 0, 0, 0, 0, 0, 0, 0, 2,

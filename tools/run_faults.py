@@ -187,6 +187,29 @@ SCRIPTS = [
     (SCRIPT + "load a\nn400000010\nend\n", "3 range"), (SCRIPT + "load a\nr4000000000\nend\n", "3 range"),
     (SCRIPT + "load a\nr12a\nend\n", "3 number"), (SCRIPT + "load a\nx9\nend\n", "3 word"),
     (SCRIPT + "load a\nq\nend\n", "3 word"),
+    ("\n# ucode-script 1\n", "0 head"), ("\nucode-script 01\n", "2 head"), ("ucode-script 1\r\r\n", "1 head"),
+    ("boot\n", "1 head"), ("# each\r\n\r\n\tucode-script 1\r\nboot \t e\r\nload e\n*1\nend\r", None),
+    (SCRIPT + "begin", "2 word"), (SCRIPT + "end", "2 word"), (SCRIPT + "s0", "2 word"), (SCRIPT + "online", "2 word"),
+    (SCRIPT + "pool 1\npool 1", "3 word"), (SCRIPT + "patience 1\npool 1", "3 word"), (SCRIPT + "boot \udcff", "2 word"),
+    (SCRIPT + "pool 18446744073709551616", "2 number"),
+    (SCRIPT + "load" + 16 * " e" + "\nend\n", None), (SCRIPT + "load" + 17 * " e" + "\nend\n", "2 word"),
+    (SCRIPT + "load a\nload x\nend\n", "3 word"), (SCRIPT + "load a\nend x\nend\n", "3 word"),
+    (SCRIPT + "load a\nresume\nend\n", "3 number"), (SCRIPT + "load a\nnonsense\nend\n", "3 number"),
+    (SCRIPT + "load a\ns9 s\nend\n", "3 number"), (SCRIPT + "load a\n*0x\nend\n", "3 number"),
+    (SCRIPT + "\nload-force a\n# end", "3 no-end"),
+    (SCRIPT + "load a\ns0 s00 s0x0 s007\nend\n", "3 range"), (SCRIPT + "load a\ns0\n\nt1\nend\n", "5 range"),
+]
+# The same for one core with two threads. A round is an event for each of them.
+SCRIPTS_FOR_TWO = [
+    (SCRIPT + "offline 2\n", "2 range"), (SCRIPT + "offline 0x1\nonline 01\n", None), (SCRIPT + "accept 1\n", "2 range"),
+    (SCRIPT + "load a\ns1 t1 n1 r1 s0x1 *109\nend\n", None), (SCRIPT + "load a\ns1\nt2\nend\n", "4 range"),
+    (SCRIPT + "load a\n" + 32 * "*65535\n" + "*32\nend\n", None),
+    (SCRIPT + "load a\n" + 32 * "*65535\n" + "*33\nend\n", "35 too-many"),
+    (SCRIPT + "load a\n" + 32 * "*65535\n" + "*32 s0\nend\n", "35 too-many"),
+    (SCRIPT + "load a\n" + 32 * "*65535\n" + "*33 s9\nend\n", "35 range"),
+    (SCRIPT + "load a\n" + 32 * "*65535\n" + "*24 *8\nend\n", None),
+    (SCRIPT + "load a\n" + 32 * "*65535\n" + "*24 *8 s0\nend\n", "35 too-many"),
+    (SCRIPT + "load a\n" + 32 * "*65535\n" + "*32\ns0\nend\n", "36 too-many"),
 ]
 
 
@@ -252,8 +275,11 @@ def text_cases():
     for line, fault in (("999 core 0", "too-many"), ("256 core 9", "too-many"), ("256 core 65536", "number")):
         topology = f"{front}cpu {line}\n".encode()
         yield ["select", "t", "e"], {**files, "t": topology}, 2, text_of("topology line", f"260 {fault}")
-    for text, fault in SCRIPTS:
-        yield ["play", "t", "s"], {**files, "s": text.encode()}, 2 if fault else None, text_of("script line", fault)
+    two = {**files, "t": (HEAD + CORE + CPU + "cpu 1 core 0\n").encode()}
+    for given, cases in ((files, SCRIPTS), (two, SCRIPTS_FOR_TWO)):
+        for text, fault in cases:
+            script = text.encode(errors="surrogateescape")
+            yield ["play", "t", "s"], {**given, "s": script}, 2 if fault else None, text_of("script line", fault)
 
 
 def limit_cases():

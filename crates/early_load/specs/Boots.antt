@@ -26,9 +26,10 @@ abbrev pub brought_up : Setting → Hardware → Puts → List (Option ℕ) → 
 brought_up setting hardware puts offers =
     bring_up_all setting (cached_patches puts.patches (offered puts offers)) (with_power hardware On)
 
--- The machine was off and is booted: each group caches its offer, which was put, power is on, and every thread came up in
--- ascending order.
-pub record IsBooted (setting : Setting) (row : Result Puts ℕ) (offers : List (Option ℕ)) (old new : State) (ups : List BringUp) : Type 0 where
+-- The machine was off and is booted: each group caches its offer, which was put, power is on, and every thread came up
+-- in ascending order.
+pub record IsBooted (setting : Setting) (row : Result Puts ℕ) (offers : List (Option ℕ)) (old new : State)
+    (ups : List BringUp) : Type 0 where
   pub was_off : is_off old.hardware.power ≡ true
   pub puts : Puts
   pub put : row ≡ Ok puts

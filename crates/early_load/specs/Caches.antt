@@ -1,5 +1,6 @@
 -- What a cache stands for, and what a region holds beside it.
-use Rattle.std.specs.Prelude.{◌≡◌, ◌≢◌, ℕ, ◌<◌, ◌≤◌, true, List, length, Option, Some, None, slice_index_or, if◌then◌else◌}
+use Rattle.std.specs.Prelude.{◌≡◌, ◌≢◌, ℕ, ◌<◌, ◌≤◌, true, List, length, Option, Some, None, slice_index_or}
+use Rattle.std.specs.Prelude.{if◌then◌else◌}
 use Rattle.patch_pool.specs.declared.pool.PatchId.{PatchId}
 use Rattle.region_steps.specs.Region.{Patches, take_out}
 use Rattle.machine_steps.specs.Puts.{is_cached, patch_at}

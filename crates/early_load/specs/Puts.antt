@@ -27,7 +27,8 @@ abbrev pub puts_of : ℕ → Contents → List (Option ℕ) → Patches → Resu
 puts_of blocks contents offers patches = put_offers blocks (bytes_at contents) (Ok (no_puts patches)) offers
 
 -- The offers were put, and this is where the patch of each group's offer begins.
-pub record ArePut (row : Result Puts ℕ) (offers : List (Option ℕ)) (after : Patches) (places : List (Option PatchId)) : Type 0 where
+pub record ArePut (row : Result Puts ℕ) (offers : List (Option ℕ)) (after : Patches)
+    (places : List (Option PatchId)) : Type 0 where
   pub puts : Puts
   pub put : row ≡ Ok puts
   pub patches : after ≡ puts.patches

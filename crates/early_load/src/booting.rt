@@ -21,10 +21,10 @@ use patch_pool::PatchPool;
 use uc_catalog::Catalog;
 
 /// Boots a machine that is off: puts what each group is offered, lets the groups cache it, powers on, and brings every
-/// thread up, in ascending order. It answers `Booted` exactly where the machine is not off, and `PoolFull` where an entry
-/// finds no room; all is then as before. Where the machine is off the pool and the cache are empty; the cache has the
-/// machine's groups, and there is one offer, an entry of the catalogue or none, for each; the catalogue keeps the files'
-/// bytes. Afterwards the pool holds just the cached patches.
+/// thread up, in ascending order. It answers `Booted` exactly where the machine is not off, and `PoolFull` where an
+/// entry finds no room; all is then as before. Where the machine is off the pool and the cache are empty; the cache has
+/// the machine's groups, and there is one offer, an entry of the catalogue or none, for each; the catalogue keeps the
+/// files' bytes. Afterwards the pool holds just the cached patches.
 pub fn boot(
     machine: &mut Machine,
     catalog: &Catalog,
@@ -38,11 +38,19 @@ pub fn boot(
     requires keeps { IsTrue catalog.now.keeps }
     requires empty { is_off (hardware_of machine.old).power ≡ true → patches_of pool.old ≡ no_patches }
     requires none_cached { is_off (hardware_of machine.old).power ≡ true → cached_of cache.old ≡ nothing_cached }
-    ensures answer { let old : State = record { hardware = hardware_of machine.old; patches = patches_of pool.old; cached = cached_of cache.old } in
-        let new : State = record { hardware = hardware_of machine.new; patches = patches_of pool.new; cached = cached_of cache.new } in
+    ensures answer { let old : State =
+        record { hardware = hardware_of machine.old; patches = patches_of pool.old; cached = cached_of cache.old } in
+        let new : State =
+        record {
+          hardware = hardware_of machine.new;
+          patches = patches_of pool.new;
+          cached = cached_of cache.new;
+        } in
         let row = puts_of (blocks_in pool.old) catalog.now offers.now (patches_of pool.old) in
-        MatchResult result (λ ups. IsBooted (setting_of machine.old) row offers.now old new ups.items) (λ answer. IsRefused row (hardware_of machine.old) answer × (new ≡ old)) }
-    ensures just_cached { IfOk result (λ _. HoldsJustCached (groups_of cache.new) (patches_of pool.new) (cached_of cache.new)) }
+        MatchResult result (λ ups. IsBooted (setting_of machine.old) row offers.now old new ups.items)
+        (λ answer. IsRefused row (hardware_of machine.old) answer × (new ≡ old)) }
+    ensures just_cached { IfOk result
+        (λ _. HoldsJustCached (groups_of cache.new) (patches_of pool.new) (cached_of cache.new)) }
     ensures same_setting { setting_of machine.new ≡ setting_of machine.old }
     ensures same_groups { groups_of cache.new ≡ groups_of cache.old }
     ensures size { blocks_in pool.new ≡ blocks_in pool.old }

@@ -10,8 +10,8 @@ use crate::patches::begins_at;
 use arrayvec::ArrayVec;
 use patch_pool::{PatchId, PatchPool};
 
-/// Which patch of a region each group caches. The number of groups is that given to `new`, and numbers of groups are below
-/// it in all calls.
+/// Which patch of a region each group caches. The number of groups is that given to `new`, and numbers of groups are
+/// below it in all calls.
 #[derive(Debug, Drop)]
 pub struct PatchCache {
     patches: ArrayVec<Option<PatchId>, 256>,
@@ -19,7 +19,8 @@ pub struct PatchCache {
 }
 
 impl PatchCache {
-    ghost use Rattle.early_load.specs.Caches.{first_block, groups_of, cached_of, nothing_cached, place_at, swept_at, CachesHold, HoldsJustCached};
+    ghost use Rattle.early_load.specs.Caches.{first_block, groups_of, cached_of, nothing_cached, place_at, swept_at};
+    ghost use Rattle.early_load.specs.Caches.{CachesHold, HoldsJustCached};
 
     /// A cache of so many groups, of which none caches a patch.
     pub fn new(groups: u16) -> PatchCache
@@ -84,7 +85,8 @@ impl PatchCache {
     /// these. The blocks are gone through up to the last patch.
     pub fn sweep(&self, pool: &mut PatchPool)
         ensures swept { patches_of pool.new ≡ swept (groups_of self.now) (cached_of self.now) (patches_of pool.old) }
-        ensures just_cached { CachesHold (groups_of self.now) (patches_of pool.old) (cached_of self.now) → HoldsJustCached (groups_of self.now) (patches_of pool.new) (cached_of self.now) }
+        ensures just_cached { CachesHold (groups_of self.now) (patches_of pool.old) (cached_of self.now) →
+            HoldsJustCached (groups_of self.now) (patches_of pool.new) (cached_of self.now) }
         ensures size { blocks_in pool.new ≡ blocks_in pool.old }
     {
         let mut left = pool.held();
@@ -102,7 +104,8 @@ impl PatchCache {
     /// Frees a patch of the region that no group caches.
     fn sweep_at(&self, pool: &mut PatchPool, id: PatchId)
         requires { begins_at (patches_of pool.old) id.0 ≡ true }
-        ensures swept { patches_of pool.new ≡ swept_at (groups_of self.now) (cached_of self.now) (patches_of pool.old) id.0 }
+        ensures swept { patches_of pool.new
+            ≡ swept_at (groups_of self.now) (cached_of self.now) (patches_of pool.old) id.0 }
         ensures size { blocks_in pool.new ≡ blocks_in pool.old }
     {
         if !self.caches(id.0) {

@@ -18,15 +18,17 @@ use machine_steps::{BringUp, HotAnswer, Written};
 use patch_pool::PatchPool;
 use uc_bytes::word_at;
 
-/// Brings a thread up that may come up. Where it is the first of its group since power-up, and the revision of the group's
-/// cached patch, the word at byte 4, is above the group's, the group writes it, or refuses. The cache has the machine's
-/// groups, and the pool holds each cached patch, with at least 8 bytes.
+/// Brings a thread up that may come up. Where it is the first of its group since power-up, and the revision of the
+/// group's cached patch, the word at byte 4, is above the group's, the group writes it, or refuses. The cache has the
+/// machine's groups, and the pool holds each cached patch, with at least 8 bytes.
 pub fn bring_up(machine: &mut Machine, cache: &PatchCache, pool: &PatchPool, t: u16) -> BringUp
     requires thread { t < (setting_of machine.old).threads }
     requires may { may_come_up (hardware_of machine.old) t ≡ Ok (hardware_of machine.old) }
     requires groups { groups_of cache.now ≡ (setting_of machine.old).groups }
     requires held { CachesHold (groups_of cache.now) (patches_of pool.now) (cached_of cache.now) }
-    ensures brought { record { up = result; after = hardware_of machine.new } ≡ bring_up (setting_of machine.old) (cached_patches (patches_of pool.now) (cached_of cache.now)) (hardware_of machine.old) t }
+    ensures brought { record { up = result; after = hardware_of machine.new }
+        ≡ bring_up (setting_of machine.old) (cached_patches (patches_of pool.now) (cached_of cache.now))
+        (hardware_of machine.old) t }
     ensures same_setting { setting_of machine.new ≡ setting_of machine.old }
 {
     let group = machine.group_of(t);
@@ -65,7 +67,8 @@ fn write(machine: &mut Machine, t: u16, group: u16, new: u32) -> BringUp
     requires group { group < (setting_of machine.old).groups }
     requires power { is_on (hardware_of machine.old).power ≡ true }
     requires above { (hardware_of machine.old).rev group < new }
-    ensures brought { record { up = result; after = hardware_of machine.new } ≡ brought (hardware_of machine.old) t group (Some new) ((hardware_of machine.old).refuses group) }
+    ensures brought { record { up = result; after = hardware_of machine.new }
+        ≡ brought (hardware_of machine.old) t group (Some new) ((hardware_of machine.old).refuses group) }
     ensures same_setting { setting_of machine.new ≡ setting_of machine.old }
 {
     if machine.refuses(group) {
@@ -94,7 +97,9 @@ pub(crate) fn bring_up_wanted(
     requires cold { (t : ℕ) → is_cold ((hardware_of machine.old).thread t) ≡ true }
     requires groups { groups_of cache.now ≡ (setting_of machine.old).groups }
     requires held { CachesHold (groups_of cache.now) (patches_of pool.now) (cached_of cache.now) }
-    ensures brought { record { ups = result.items; after = hardware_of machine.new } ≡ bring_up_each (setting_of machine.old) (cached_patches (patches_of pool.now) (cached_of cache.now)) (hardware_of machine.old) (wanted_threads wanted (setting_of machine.old) (hardware_of machine.old)) }
+    ensures brought { record { ups = result.items; after = hardware_of machine.new }
+        ≡ bring_up_each (setting_of machine.old) (cached_patches (patches_of pool.now) (cached_of cache.now))
+        (hardware_of machine.old) (wanted_threads wanted (setting_of machine.old) (hardware_of machine.old)) }
     ensures same_setting { setting_of machine.new ≡ setting_of machine.old }
 {
     let mut ups = ArrayVec::new();
@@ -107,8 +112,8 @@ pub(crate) fn bring_up_wanted(
     ups
 }
 
-/// Wakes a machine and brings its remembered threads up, in ascending order. It answers `NotAsleep` exactly where the machine
-/// does not sleep, and nothing else. The cache and the pool are as in `bring_up`.
+/// Wakes a machine and brings its remembered threads up, in ascending order. It answers `NotAsleep` exactly where the
+/// machine does not sleep, and nothing else. The cache and the pool are as in `bring_up`.
 pub fn resume(
     machine: &mut Machine,
     cache: &PatchCache,
@@ -116,9 +121,14 @@ pub fn resume(
 ) -> Result<ArrayVec<BringUp, 256>, HotAnswer>
     requires groups { groups_of cache.now ≡ (setting_of machine.old).groups }
     requires held { CachesHold (groups_of cache.now) (patches_of pool.now) (cached_of cache.now) }
-    ensures answer { let row = resume (setting_of machine.old) (cached_patches (patches_of pool.now) (cached_of cache.now)) (hardware_of machine.old) in MatchResult result (λ ups. row ≡ Ok (record { ups = ups.items; after = hardware_of machine.new })) (λ answer. (row ≡ Err answer) × (hardware_of machine.new ≡ hardware_of machine.old)) }
+    ensures answer { let row =
+        resume (setting_of machine.old) (cached_patches (patches_of pool.now) (cached_of cache.now))
+        (hardware_of machine.old) in
+        MatchResult result (λ ups. row ≡ Ok (record { ups = ups.items; after = hardware_of machine.new }))
+        (λ answer. (row ≡ Err answer) × (hardware_of machine.new ≡ hardware_of machine.old)) }
     ensures same_setting { setting_of machine.new ≡ setting_of machine.old }
 {
+    // Read for its contract: while the machine sleeps all threads are cold.
     let _power = machine.power();
     machine.wake()?;
     Ok(bring_up_wanted(machine, cache, pool, Wanted::Remembered))

@@ -12,10 +12,11 @@ use arrayvec::ArrayVec;
 use patch_pool::{PatchId, PatchPool, PoolFull};
 use uc_catalog::Catalog;
 
-/// Puts the entry that each group is offered, in the order of the groups, and each entry once: groups with the same offer
-/// share its patch. `places` then tells for each group the patch of its offer; where these are freed, the pool is as before.
-/// There are at most 256 groups, and each offer is an entry of the catalogue, which keeps the files' bytes. At the first
-/// entry for which no run of blocks is long enough the pool is full; what was put in this call is then freed again.
+/// Puts the entry that each group is offered, in the order of the groups, and each entry once: groups with the same
+/// offer share its patch. `places` then tells for each group the patch of its offer; where these are freed, the pool is
+/// as before. There are at most 256 groups, and each offer is an entry of the catalogue, which keeps the files' bytes.
+/// At the first entry for which no run of blocks is long enough the pool is full; what was put in this call is then
+/// freed again.
 ///
 /// `places` is lent, and what it held is let go: who loads often clears and moves no list of 256 places so.
 pub fn put_offers(
@@ -27,11 +28,18 @@ pub fn put_offers(
     requires few { length offers.now ≤ 256 }
     requires known { AreEntries catalog.now offers.now }
     requires keeps { IsTrue catalog.now.keeps }
-    ensures put { IfOk result (λ _. ArePut (puts_of (blocks_in pool.old) catalog.now offers.now (patches_of pool.old)) offers.now (patches_of pool.new) places.new.items) }
-    ensures held { IfOk result (λ _. (g first : ℕ) → place_at places.new.items g ≡ Some first → HoldsPatch (patches_of pool.new first)) }
-    ensures others { IfOk result (λ _. (block : ℕ) → IsElsewhere places.new.items block → patches_of pool.new block ≡ patches_of pool.old block) }
+    ensures put { IfOk result
+        (λ _. ArePut (puts_of (blocks_in pool.old) catalog.now offers.now (patches_of pool.old)) offers.now
+        (patches_of pool.new) places.new.items) }
+    ensures held { IfOk result
+        (λ _. (g first : ℕ) → place_at places.new.items g ≡ Some first → HoldsPatch (patches_of pool.new first)) }
+    ensures others { IfOk result
+        (λ _. (block : ℕ) → IsElsewhere places.new.items block →
+        patches_of pool.new block ≡ patches_of pool.old block) }
     ensures back { IfOk result (λ _. without places.new.items (patches_of pool.new) ≡ patches_of pool.old) }
-    ensures full { IfErr result (λ full. (puts_of (blocks_in pool.old) catalog.now offers.now (patches_of pool.old) ≡ Err full.needed) × (patches_of pool.new ≡ patches_of pool.old)) }
+    ensures full { IfErr result
+        (λ full. (puts_of (blocks_in pool.old) catalog.now offers.now (patches_of pool.old) ≡ Err full.needed)
+        × (patches_of pool.new ≡ patches_of pool.old)) }
     ensures size { blocks_in pool.new ≡ blocks_in pool.old }
 {
     places.clear();
@@ -62,7 +70,8 @@ pub fn put_offers(
 /// The first of so many groups that is offered this entry.
 fn first_offer(entry: u32, offers: &[Option<u32>], groups: usize) -> Option<usize>
     requires { groups ≤ length offers.now }
-    ensures { MatchOption result ((g : ℕ) → g < groups → offer_of offers.now g ≡ Some entry → ⊥) (λ g. (g < groups) × (offer_of offers.now g ≡ Some entry)) }
+    ensures { MatchOption result ((g : ℕ) → g < groups → offer_of offers.now g ≡ Some entry → ⊥)
+        (λ g. (g < groups) × (offer_of offers.now g ≡ Some entry)) }
 {
     for g in 0..groups {
         if let Some(other) = offers[g] {
@@ -78,7 +87,8 @@ fn first_offer(entry: u32, offers: &[Option<u32>], groups: usize) -> Option<usiz
 fn put_entry(catalog: &Catalog, entry: u32, pool: &mut PatchPool) -> Result<PatchId, PoolFull>
     requires entry { entry < length catalog.now.entries }
     requires keeps { IsTrue catalog.now.keeps }
-    ensures put { IsPut (patches_of pool.old) (patches_of pool.new) (blocks_in pool.old) (bytes_at catalog.now entry) result }
+    ensures put { IsPut (patches_of pool.old) (patches_of pool.new) (blocks_in pool.old)
+        (bytes_at catalog.now entry) result }
     ensures header { 48 ≤ length (bytes_at catalog.now entry) }
     ensures stand { Stands (patches_of pool.old) (blocks_in pool.old) }
     ensures size { blocks_in pool.new ≡ blocks_in pool.old }

@@ -1,5 +1,6 @@
 -- What the generated topology and the generated script are to state.
-use Rattle.std.specs.Prelude.{ℕ, ◌+◌, ◌*◌, ◌/◌, ◌%◌, ◌==◌, if◌then◌else◌, false, List, [], ◌∷◌, ◌++◌, map, flat_map, codes}
+use Rattle.std.specs.Prelude.{ℕ, ◌+◌, ◌*◌, ◌/◌, ◌%◌, ◌==◌, if◌then◌else◌, false, List, [], ◌∷◌, ◌++◌, map, flat_map}
+use Rattle.std.specs.Prelude.{codes}
 use Rattle.std.specs.List.{range_with_len}
 use Rattle.uc_bytes.specs.declared.causes.Vendor.TheVariants.{Intel}
 use Rattle.uc_topology.specs.declared.tables.Core.{Core}
@@ -14,7 +15,8 @@ use Rattle.uc_gen.specs.Texts.{core_sig, core_flags}
 
 -- a core is a group of its own, with what was drawn for it
 abbrev pub core_of : ℕ → ℕ → Core
-core_of number core = record { group = core; facts = record { sig = core_sig number core; flags = core_flags number core; rev = 0x80 } }
+core_of number core =
+    record { group = core; facts = record { sig = core_sig number core; flags = core_flags number core; rev = 0x80 } }
 
 -- the first cores, and the cores of the first threads, two on each
 unfoldable pub cores_of : ℕ → ℕ → List Core
@@ -30,7 +32,8 @@ machine_of number = record { vendor = Intel; stated = record { cores = cores_of 
 abbrev pub limits_of : Limits
 limits_of = record { threads = 256; cores = 128 }
 
--- the commands of the first odd threads, each of which goes offline where the number that is drawn for it is a multiple of 4
+-- the commands of the first odd threads, each of which goes offline where the number that is drawn for it is a multiple
+-- of 4
 unfoldable pub offlines_of : ℕ → ℕ → List Command
 offlines_of number count =
     flat_map (λ k. if draw number (k + 1) % 4 == 0 then Offline (2 * k + 1) ∷ [] else []) (range_with_len 0 count)

@@ -5,6 +5,3 @@
 mod laws;
 
 pub use laws::{generated_script_is_read, generated_texts_are_short, generated_topology_is_read};
-
-#[cfg(test)]
-mod tests;

@@ -9,6 +9,3 @@ mod tables;
 
 pub use machine::Machine;
 pub use machine_steps::{HotAnswer, Power, ThreadState};
-
-#[cfg(test)]
-mod tests;

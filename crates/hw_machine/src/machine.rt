@@ -4,7 +4,8 @@ ghost use Rattle.std.specs.Prelude.{◌≡◌, ℕ, ◌<◌, ◌≤◌, length, 
 ghost use Rattle.std.specs.List.{list_all};
 ghost use Rattle.machine_steps.specs.declared.states.Power.TheVariants.{On};
 ghost use Rattle.machine_steps.specs.declared.states.ThreadState.TheVariants.{Up};
-ghost use Rattle.machine_steps.specs.Hardware.{setting_of as stated_setting, switched_off, all_cold, is_on, is_cold, with_thread, with_refusal, with_rev};
+ghost use Rattle.machine_steps.specs.Hardware.{setting_of as stated_setting, switched_off, all_cold, is_on, is_cold};
+ghost use Rattle.machine_steps.specs.Hardware.{with_thread, with_refusal, with_rev};
 ghost use Rattle.machine_steps.specs.Calls.{power_on, soft_offline, may_come_up, suspend, wake, Answers};
 
 use crate::tables::{copied, filled, firmware_revisions, groups_of, up_threads};
@@ -35,8 +36,8 @@ pub struct Machine {
 impl Machine {
     ghost use Rattle.hw_machine.specs.Machine.{setting_of, hardware_of};
 
-    /// The machine that a topology states, off, with each thread cold and each group at the firmware's revision. No group
-    /// refuses.
+    /// The machine that a topology states, off, with each thread cold and each group at the firmware's revision. No
+    /// group refuses.
     pub fn new(topology: &Topology) -> Machine
         ensures setting { setting_of result ≡ stated_setting topology.now.stated }
         ensures hardware { hardware_of result ≡ switched_off (setting_of result) }
@@ -86,7 +87,8 @@ impl Machine {
     /// Whether it is powered. Its contract says also that all threads are cold where power is not on.
     pub fn power(&self) -> Power
         ensures value { result ≡ (hardware_of self.now).power }
-        ensures cold { is_on (hardware_of self.now).power ≡ false → (t : ℕ) → is_cold ((hardware_of self.now).thread t) ≡ true }
+        ensures cold { is_on (hardware_of self.now).power ≡ false → (t : ℕ) →
+            is_cold ((hardware_of self.now).thread t) ≡ true }
     {
         self.power
     }
@@ -145,7 +147,8 @@ impl Machine {
 
     /// Powers the machine on. It answers `Booted` exactly where it is not off.
     pub fn power_on(&mut self) -> Result<(), HotAnswer>
-        ensures answer { Answers (power_on (hardware_of self.old)) (hardware_of self.old) (hardware_of self.new) result }
+        ensures answer { Answers (power_on (hardware_of self.old)) (hardware_of self.old)
+            (hardware_of self.new) result }
         ensures same_setting { setting_of self.new ≡ setting_of self.old }
     {
         if self.power != Power::Off {
@@ -159,7 +162,8 @@ impl Machine {
     /// `BootThread` for thread 0, `NotUp` where the thread is not up.
     pub fn soft_offline(&mut self, t: u16) -> Result<(), HotAnswer>
         requires { t < (setting_of self.old).threads }
-        ensures answer { Answers (soft_offline (hardware_of self.old) t) (hardware_of self.old) (hardware_of self.new) result }
+        ensures answer { Answers (soft_offline (hardware_of self.old) t) (hardware_of self.old)
+            (hardware_of self.new) result }
         ensures same_setting { setting_of self.new ≡ setting_of self.old }
     {
         if self.power != Power::On {
@@ -175,8 +179,8 @@ impl Machine {
         Ok(())
     }
 
-    /// Whether a thread may be brought up. It answers `PoweredDown` where the machine is not on, and else `IsUp` where the
-    /// thread is up.
+    /// Whether a thread may be brought up. It answers `PoweredDown` where the machine is not on, and else `IsUp` where
+    /// the thread is up.
     pub fn may_come_up(&self, t: u16) -> Result<(), HotAnswer>
         requires { t < (setting_of self.now).threads }
         ensures { Answers (may_come_up (hardware_of self.now) t) (hardware_of self.now) (hardware_of self.now) result }
@@ -218,7 +222,8 @@ impl Machine {
     /// Puts the machine to sleep: the threads that are up are remembered, all become cold, and each group falls to the
     /// firmware's revision. It answers `PoweredDown` exactly where the machine is not on.
     pub fn suspend(&mut self) -> Result<(), HotAnswer>
-        ensures answer { Answers (suspend (setting_of self.old) (hardware_of self.old)) (hardware_of self.old) (hardware_of self.new) result }
+        ensures answer { Answers (suspend (setting_of self.old) (hardware_of self.old)) (hardware_of self.old)
+            (hardware_of self.new) result }
         ensures same_setting { setting_of self.new ≡ setting_of self.old }
     {
         if self.power != Power::On {

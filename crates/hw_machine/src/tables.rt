@@ -24,7 +24,9 @@ pub(crate) fn groups_of(topology: &Topology) -> ArrayVec<u16, 256>
 
 /// The revision that the firmware gives each group.
 pub(crate) fn firmware_revisions(topology: &Topology) -> ArrayVec<u32, 256>
-    ensures items { result.items ≡ map (λ g. (group_facts topology.now.stated.cores g).rev) (range_with_len 0 (group_count topology.now.stated.cores)) }
+    ensures items { result.items
+        ≡ map (λ g. (group_facts topology.now.stated.cores g).rev)
+        (range_with_len 0 (group_count topology.now.stated.cores)) }
     ensures few { length result.items ≤ 256 }
 {
     let mut revisions = ArrayVec::new();

@@ -15,7 +15,7 @@ use Rattle.script_text.specs.declared.forms.Limits.{Limits}
 use Rattle.script_text.specs.Stated.{Stated}
 use Rattle.script_text.specs.Texts.{States}
 use Rattle.script_text.proofs.OneReading.{one_script, never_both as never_both_script}
-use Rattle.script_report.specs.Accepts.{IsScript, RefusesScript}
+use Rattle.script_text.specs.Accepts.{IsScript, RefusesScript}
 use Rattle.session_text.specs.declared.answers.SessionAnswer.{SessionAnswer}
 use Rattle.session_steps.specs.State.{Setting, opening_state}
 use Rattle.session_steps.specs.Did.{Did}

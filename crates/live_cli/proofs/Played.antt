@@ -10,8 +10,8 @@ use Rattle.file_reads.specs.Reads.{Read, AreHeld}
 use Rattle.file_reads.proofs.Outcomes.{held_nil, held_cons, held_one}
 use Rattle.rendezvous_rule.specs.Runs.{RunOf}
 use Rattle.report_text.specs.Lines.{unread_line, usage_line, topology_line}
-use Rattle.script_report.specs.Accepts.{IsScript}
-use Rattle.script_report.specs.Lines.{script_line}
+use Rattle.script_text.specs.Accepts.{IsScript}
+use Rattle.script_text.specs.Lines.{script_line}
 use Rattle.script_text.specs.Stated.{Stated}
 use Rattle.session_text.specs.declared.answers.SessionAnswer.{SessionAnswer}
 use Rattle.session_text.specs.declared.answers.SessionAnswer.TheVariants as session

@@ -18,9 +18,9 @@ use Rattle.script_text.specs.declared.fault.ScriptCause.TheVariants.{TooLong}
 use Rattle.script_text.specs.Stated.{Stated}
 use Rattle.script_text.proofs.OneReading.{one_each}
 use Rattle.script_text.proofs.Kept.{within}
-use Rattle.script_report.specs.declared.TheConstants.{SCRIPT_LIMIT}
-use Rattle.script_report.specs.Accepts.{IsScript, RefusesScript}
-use Rattle.script_report.specs.Lines.{script_line}
+use Rattle.script_text.specs.declared.TheConstants.{SCRIPT_LIMIT}
+use Rattle.script_text.specs.Accepts.{IsScript, RefusesScript}
+use Rattle.script_text.specs.Lines.{script_line}
 use Rattle.session_text.specs.declared.answers.SessionAnswer.{SessionAnswer}
 use Rattle.session_steps.specs.State.{opening_state}
 use Rattle.session_steps.specs.Session.{texts_from, all_reads, all_runs, session_answer}
@@ -30,7 +30,7 @@ use Rattle.top_call.specs.Written.{HasText, GoesWith}
 use Rattle.top_call.specs.declared.status.Status.{Status}
 use Rattle.top_call.specs.declared.status.Status.TheVariants.{BadInput}
 use Rattle.tool_text.specs.Plays.{limits_of, setting_of, status_of}
-use Rattle.session_runs.proofs.Within.{all_in_range}
+use Rattle.cut_laws.proofs.Within.{all_in_range}
 use Rattle.live_cli.proofs.Ended.{goes, none_unread}
 use Rattle.live_cli.specs.Texts.{FromRuns, SessionText}
 

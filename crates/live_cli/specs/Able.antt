@@ -10,7 +10,7 @@ use Rattle.machine_steps.specs.Puts.{Puts}
 use Rattle.script_text.specs.declared.command.Command.{Command}
 use Rattle.script_text.specs.declared.command.Command.TheVariants as command
 use Rattle.script_text.specs.Stated.{Stated}
-use Rattle.script_report.specs.Accepts.{IsScript}
+use Rattle.script_text.specs.Accepts.{IsScript}
 use Rattle.session_text.specs.declared.answers.CommandAnswer.TheVariants.{Done}
 use Rattle.session_steps.specs.State.{Setting, State, opening_state, first_missing}
 use Rattle.session_steps.specs.Offers.{offer_of, AreLoadOffers, SomethingOffered}

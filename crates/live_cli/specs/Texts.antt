@@ -7,7 +7,7 @@ use Rattle.top_call.specs.declared.status.Status.TheVariants.{Usage, BadInput, W
 use Rattle.file_reads.specs.Reads.{Read, AreHeld}
 use Rattle.report_text.specs.Lines.{usage_line, topology_line}
 use Rattle.rendezvous_rule.specs.Runs.{RunOf}
-use Rattle.script_report.specs.Accepts.{IsScript}
+use Rattle.script_text.specs.Accepts.{IsScript}
 use Rattle.script_text.specs.Stated.{Stated}
 use Rattle.session_text.specs.declared.answers.SessionAnswer.{SessionAnswer}
 use Rattle.session_steps.specs.Did.{Did}

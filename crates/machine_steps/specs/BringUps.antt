@@ -1,6 +1,7 @@
--- A thread comes up. Where it is the first of its group since power-up, and the group caches a patch of a revision above
--- its own, the group writes that patch, or refuses.
-use Rattle.std.specs.Prelude.{ℕ, Bool, true, false, nat_lt, if◌then◌else◌, List, [], ◌∷◌, filter, Option, Some, None, Result, Ok, Err}
+-- A thread comes up. Where it is the first of its group since power-up, and the group caches a patch of a revision
+-- above its own, the group writes that patch, or refuses.
+use Rattle.std.specs.Prelude.{ℕ, Bool, true, false, nat_lt, if◌then◌else◌, List, [], ◌∷◌, filter, Option, Some, None}
+use Rattle.std.specs.Prelude.{Result, Ok, Err}
 use Rattle.uc_bytes.specs.Words.{word}
 use Rattle.machine_steps.specs.declared.states.ThreadState.TheVariants.{Up}
 use Rattle.machine_steps.specs.declared.answers.HotAnswer.{HotAnswer}
@@ -44,7 +45,8 @@ brought hardware t g (Some new) false = record { up = shows t new Wrote; after =
 
 abbrev pub bring_up : Setting → CachedPatches → Hardware → ℕ → Brought
 bring_up setting patches hardware t =
-    brought (with_thread hardware t Up) t (setting.group t) (to_write setting patches hardware (setting.group t)) (hardware.refuses (setting.group t))
+    brought (with_thread hardware t Up) t (setting.group t) (to_write setting patches hardware (setting.group t))
+    (hardware.refuses (setting.group t))
 
 -- ---- several threads, one after the other
 
@@ -70,7 +72,8 @@ remembered_threads setting hardware = filter hardware.remembered (threads_of set
 
 -- the machine wakes, and the remembered threads come up
 abbrev pub resume_from : Setting → CachedPatches → Hardware → Result Hardware HotAnswer → Result AllBrought HotAnswer
-resume_from setting patches hardware (Ok awake) = Ok (bring_up_each setting patches awake (remembered_threads setting hardware))
+resume_from setting patches hardware (Ok awake) =
+    Ok (bring_up_each setting patches awake (remembered_threads setting hardware))
 resume_from setting patches hardware (Err answer) = Err answer
 
 abbrev pub resume : Setting → CachedPatches → Hardware → Result AllBrought HotAnswer

@@ -4,8 +4,10 @@ use Rattle.std.specs.Prelude.{◌≡◌, ℕ, Bool, true, false, not, ◌==◌, 
 use Rattle.machine_steps.specs.declared.states.Power.TheVariants.{On}
 use Rattle.machine_steps.specs.declared.states.ThreadState.TheVariants.{Offline}
 use Rattle.machine_steps.specs.declared.answers.HotAnswer.{HotAnswer}
-use Rattle.machine_steps.specs.declared.answers.HotAnswer.TheVariants.{NotUp, IsUp, BootThread, PoweredDown, Booted, NotAsleep}
-use Rattle.machine_steps.specs.Hardware.{Setting, Hardware, is_off, is_on, is_asleep, is_up, with_power, with_thread, suspended}
+use Rattle.machine_steps.specs.declared.answers.HotAnswer.TheVariants.{NotUp, IsUp, BootThread, PoweredDown, Booted}
+use Rattle.machine_steps.specs.declared.answers.HotAnswer.TheVariants.{NotAsleep}
+use Rattle.machine_steps.specs.Hardware.{Setting, Hardware, is_off, is_on, is_asleep, is_up, with_power, with_thread}
+use Rattle.machine_steps.specs.Hardware.{suspended}
 
 abbrev pub Row : Type 0
 Row = Result Hardware HotAnswer

@@ -96,7 +96,8 @@ with_refusal hardware g on = record hardware { refuses = put hardware.refuses g 
 abbrev pub with_rev : Hardware → ℕ → ℕ → Hardware
 with_rev hardware g rev = record hardware { rev = put hardware.rev g rev }
 
--- the machine asleep: the threads that were up are remembered, all are cold, and each group is at the firmware's revision
+-- the machine asleep: the threads that were up are remembered, all are cold, and each group is at the firmware's
+-- revision
 abbrev pub suspended : Setting → Hardware → Hardware
 suspended setting hardware =
     record {

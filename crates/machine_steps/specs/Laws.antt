@@ -36,13 +36,22 @@ NeverLower old new = (g : ℕ) → old.rev g ≤ new.rev g
 
 abbrev pub CallsNeverLower : Type 0
 CallsNeverLower =
-    (setting : Setting) (old new : Hardware) (call : Call) → call ≢ Suspend → MayCall old call → row_of setting old call ≡ Ok new → NeverLower old new
+    (setting : Setting) (old new : Hardware) (call : Call) → call ≢ Suspend → MayCall old call →
+    row_of setting old call ≡ Ok new → NeverLower old new
 
 abbrev pub BringUpsNeverLower : Type 0
 BringUpsNeverLower =
-    (setting : Setting) (patches : CachedPatches) (hardware : Hardware) (threads : List ℕ) → NeverLower hardware (bring_up_each setting patches hardware threads).after
+    (setting : Setting) (patches : CachedPatches) (hardware : Hardware) (threads : List ℕ) →
+    NeverLower hardware (bring_up_each setting patches hardware threads).after
+
+-- a suspend lets every revision fall to the firmware's
+abbrev pub SuspendsLower : Type 0
+SuspendsLower =
+    (setting : Setting) (old new : Hardware) →
+    row_of setting old Suspend ≡ Ok new → (g : ℕ) → new.rev g ≡ setting.bios g
 
 -- what a call answers goes by its row, and where it is refused nothing has changed
 abbrev pub RefusalsKeep : Type 0
 RefusalsKeep =
-    (setting : Setting) (old new : Hardware) (call : Call) (answer : HotAnswer) → calls.Answers (row_of setting old call) old new (Err answer) → new ≡ old
+    (setting : Setting) (old new : Hardware) (call : Call) (answer : HotAnswer) →
+    calls.Answers (row_of setting old call) old new (Err answer) → new ≡ old

@@ -1,6 +1,6 @@
--- What a boot or a load puts into the region: the patch of each entry that is offered, once, in the order of the groups that
--- are offered it, at the lowest run of free blocks that is long enough. Groups that are offered the same entry share its
--- patch. Afterwards a sweep leaves just the patches that a group caches.
+-- What a boot or a load puts into the region: the patch of each entry that is offered, once, in the order of the groups
+-- that are offered it, at the lowest run of free blocks that is long enough. Groups that are offered the same entry
+-- share its patch. Afterwards a sweep leaves just the patches that a group caches.
 use Rattle.std.specs.Prelude.{ℕ, Bool, false, ◌==◌, if◌then◌else◌, List, [], ◌∷◌, Option, Some, None, Result, Ok, Err}
 use Rattle.std.specs.List.{list_any, range_with_len}
 use Rattle.region_steps.specs.Region as region

@@ -1,11 +1,13 @@
 //! Laws of the definitions: each is the contract of a function that does nothing.
 
-ghost use Rattle.machine_steps.specs.Laws.{CallsNeverLower, BringUpsNeverLower, RefusalsKeep};
+ghost use Rattle.machine_steps.specs.Laws.{CallsNeverLower, BringUpsNeverLower, SuspendsLower, RefusalsKeep};
 
-/// No call but suspend lets the revision of a group fall, and no bring-up does.
+/// No call but suspend lets the revision of a group fall, and no bring-up does. A suspend lets each fall to the
+/// firmware's.
 pub fn only_suspend_lets_a_revision_fall()
     ensures calls { CallsNeverLower }
     ensures bring_ups { BringUpsNeverLower }
+    ensures suspend { SuspendsLower }
 {}
 
 /// A refusal leaves the machine as it was.

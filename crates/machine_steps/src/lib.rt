@@ -1,7 +1,7 @@
-//! The simulated machine, defined: power, soft offline threads, suspend and resume, and what a thread that comes up does
-//! with its group's patch. It is this project's own, after the hotplug calls of Linux 6.7 in
-//! arch/x86/kernel/cpu/microcode/core.c (`mc_cpu_online`, `mc_bp_resume`): a group has one revision, which falls only by
-//! power-down, and the first of its threads that comes up since power-up writes.
+//! The simulated machine, defined: power, soft offline threads, suspend and resume, and what a thread that comes up
+//! does with its group's patch. It is this project's own, after the hotplug calls of Linux 6.7 in
+//! arch/x86/kernel/cpu/microcode/core.c (`mc_cpu_online`, `mc_bp_resume`): a group has one revision, which falls only
+//! by power-down, and the first of its threads that comes up since power-up writes.
 //!
 //! The crate has the plain types that contracts speak of, and in `specs/` the definitions over them:
 //!

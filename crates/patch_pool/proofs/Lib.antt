@@ -5,4 +5,3 @@ pub mod Lowest
 pub mod Taking
 pub mod Memory
 pub mod Pooling
-pub mod Marking

@@ -1,5 +1,6 @@
 -- Which blocks of a region are free, and how taking some and giving some back changes it.
-use Rattle.std.specs.Prelude.{◌≡◌, ℕ, ◌+◌, ◌-◌, ◌<◌, ◌≤◌, ◌&&◌, ◌||◌, not, nat_le, nat_lt, Bool, true, Option, Some, None, is_some, find}
+use Rattle.std.specs.Prelude.{◌≡◌, ℕ, ◌+◌, ◌-◌, ◌<◌, ◌≤◌, ◌&&◌, ◌||◌, not, nat_le, nat_lt, Bool, true, Option, Some}
+use Rattle.std.specs.Prelude.{None, is_some, find}
 use Rattle.std.specs.List.{range_with_len, list_all}
 use Rattle.region_steps.specs.Region.{Patches, is_covered}
 

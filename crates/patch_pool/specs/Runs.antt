@@ -1,5 +1,6 @@
 -- Lists of free runs.
-use Rattle.std.specs.Prelude.{◌≡◌, ℕ, zero, suc, ◌+◌, ◌<◌, ◌≤◌, ◌==◌, Bool, if◌then◌else◌, List, [], ◌∷◌, slice_index_or, length, Some}
+use Rattle.std.specs.Prelude.{◌≡◌, ℕ, zero, suc, ◌+◌, ◌<◌, ◌≤◌, ◌==◌, Bool, if◌then◌else◌, List, [], ◌∷◌}
+use Rattle.std.specs.Prelude.{slice_index_or, length, Some}
 use Rattle.std.specs.List.{list_any}
 use Rattle.std.specs.Coded.{×_prop, Unit-prop, le_prop}
 use Rattle.patch_pool.specs.declared.runs.Run.{Run}

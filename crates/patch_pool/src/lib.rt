@@ -2,18 +2,12 @@
 //! blocks that is long enough, and known by its first block from then on.
 //!
 //! All memory is taken in `PatchPool::new`: one allocation for the blocks, one for the length of the patch at each
-//! block, and one for the list of free runs. A contract sees the bytes of the patch at each block (`specs/Pool`), in the
-//! words of `region_steps`, and no list of free runs. `PlainPool` has the same contract with one mark for each block.
+//! block, and one for the list of free runs. A contract sees the bytes of the patch at each block (`specs/Pool`), in
+//! the words of `region_steps`, and no list of free runs.
 #![tactic(auto)]
 
-mod marks;
-mod plain;
 mod pool;
 mod region;
 mod runs;
 
-pub use plain::PlainPool;
 pub use pool::{PatchId, PatchPool, PoolFull};
-
-#[cfg(test)]
-mod tests;

@@ -1,6 +1,8 @@
 //! The memory of a region, with the length of the patch that begins at each block.
-ghost use Rattle.std.specs.Prelude.{◌≡◌, ◌<◌, ◌≤◌, ◌+◌, ◌*◌, ◌/◌, true, Some, length, take, drop, replicate, count_by, vec_len, vec_capacity, IfOk};
-ghost use Rattle.region_steps.specs.Region.{no_patches, begins_at, blocks_of, width, is_free_run, put_at, take_out, held};
+ghost use Rattle.std.specs.Prelude.{◌≡◌, ◌<◌, ◌≤◌, ◌+◌, ◌*◌, ◌/◌, true, Some, length, take, drop, replicate, count_by};
+ghost use Rattle.std.specs.Prelude.{vec_len, vec_capacity, IfOk};
+ghost use Rattle.region_steps.specs.Region.{no_patches, begins_at, blocks_of, width, is_free_run, put_at, take_out};
+ghost use Rattle.region_steps.specs.Region.{held};
 ghost use Rattle.patch_pool.specs.Bytes.{begins, patches_in, copied_over, EndInside};
 
 use std::alloc::{AllocError, Global};

@@ -1,5 +1,6 @@
 //! The free blocks as a list of runs: ascending, none empty, and no two touching.
-ghost use Rattle.std.specs.Prelude.{◌≡◌, ◌<◌, ◌≤◌, ◌+◌, ◌/◌, ℕ, true, false, nat_lt, None, max, fold, MatchOption, IfOk, vec_len, vec_capacity};
+ghost use Rattle.std.specs.Prelude.{◌≡◌, ◌<◌, ◌≤◌, ◌+◌, ◌/◌, ℕ, true, false, nat_lt, None, max, fold, MatchOption};
+ghost use Rattle.std.specs.Prelude.{IfOk, vec_len, vec_capacity};
 ghost use Rattle.std.specs.List.{position_or_len};
 ghost use Rattle.patch_pool.specs.Free.{IsTaken, IsGivenBack, IsLongest, is_within, lowest_of};
 ghost use Rattle.patch_pool.specs.Runs.{AllEnd, AreSpaced, AreSpaced-prop, IsFit, is_in, join_at, settle};

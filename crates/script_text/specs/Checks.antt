@@ -1,5 +1,6 @@
 -- The checks of a script's line, in their order. Each is made of the whole line before the next one is.
-use Rattle.std.specs.Prelude.{ℕ, Bool, true, false, not, List, [], ◌∷◌, ◌++◌, ◌&&◌, length, nat_le, nat_lt, ◌^◌, Option, Some, None, is_some}
+use Rattle.std.specs.Prelude.{ℕ, Bool, true, false, not, List, [], ◌∷◌, ◌++◌, ◌&&◌, length, nat_le, nat_lt, ◌^◌, Option}
+use Rattle.std.specs.Prelude.{Some, None, is_some}
 use Rattle.std.specs.List.{list_all}
 use Rattle.uc_text.specs.Numbers.{number_of}
 use Rattle.script_text.specs.declared.fault.ScriptCause.{ScriptCause}

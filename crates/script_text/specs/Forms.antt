@@ -1,6 +1,8 @@
--- The forms of a script's lines. A form is written as a line: `NAME..` stands for one to sixteen names, `[NAME..]` for none
--- to sixteen, `BEAT..` for beats, another word with a capital letter first for a number, and all others for themselves.
-use Rattle.std.specs.Prelude.{ℕ, Bool, ◌&&◌, ◌||◌, false, List, [], ◌∷◌, length, drop, codes, bytes_eq, ◌==◌, slice_index, nat_le, Option, Some, None, is_some, if◌then◌else◌}
+-- The forms of a script's lines. A form is written as a line: `NAME..` stands for one to sixteen names, `[NAME..]` for
+-- none to sixteen, `BEAT..` for beats, another word with a capital letter first for a number, and all others for
+-- themselves.
+use Rattle.std.specs.Prelude.{ℕ, Bool, ◌&&◌, ◌||◌, false, List, [], ◌∷◌, length, drop, codes, bytes_eq, ◌==◌}
+use Rattle.std.specs.Prelude.{slice_index, nat_le, Option, Some, None, is_some, if◌then◌else◌}
 use Rattle.std.specs.List.{find, list_all}
 use Rattle.std.specs.Str.{byte, is_utf8}
 use Rattle.rendezvous_steps.specs.declared.ends.Beat.{Beat}
@@ -32,7 +34,8 @@ written form.Beats = codes "BEAT.."
 -- ---- the forms of a place
 
 abbrev pub commands : List Form
-commands = form.Boot ∷ form.Online ∷ form.Offline ∷ form.Suspend ∷ form.Resume ∷ form.Refuse ∷ form.Accept ∷ form.Load ∷ form.LoadForce ∷ []
+commands = form.Boot ∷ form.Online ∷ form.Offline ∷ form.Suspend ∷ form.Resume ∷ form.Refuse ∷ form.Accept ∷ form.Load
+    ∷ form.LoadForce ∷ []
 
 -- `pool` and `patience` stand at most once each, in this order, before the commands; within a load stand beats alone
 abbrev pub forms : Place → List Form
@@ -78,7 +81,8 @@ are_names least words = (nat_le least (length words) && nat_le (length words) 16
 
 -- a last part of a form that stands for all words that are left
 abbrev pub takes_the_rest : List ℕ → Bool
-takes_the_rest part = bytes_eq part (codes "NAME..") || bytes_eq part (codes "[NAME..]") || bytes_eq part (codes "BEAT..")
+takes_the_rest part =
+    bytes_eq part (codes "NAME..") || bytes_eq part (codes "[NAME..]") || bytes_eq part (codes "BEAT..")
 
 abbrev pub have_last : List ℕ → List (List ℕ) → Bool
 have_last part words =

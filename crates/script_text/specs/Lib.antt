@@ -5,3 +5,5 @@ pub mod Within
 pub mod Checks
 pub mod Texts
 pub mod Reading
+pub mod Accepts
+pub mod Lines

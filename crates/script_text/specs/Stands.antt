@@ -1,5 +1,6 @@
 -- What stands before a line of a script, and what the line adds to it.
-use Rattle.std.specs.Prelude.{ℕ, false, true, Bool, List, [], ◌∷◌, ◌++◌, drop, map, slice_index, slice_index_or, Option, Some, None, unwrap_or}
+use Rattle.std.specs.Prelude.{ℕ, false, true, Bool, List, [], ◌∷◌, ◌++◌, drop, map, slice_index, slice_index_or, Option}
+use Rattle.std.specs.Prelude.{Some, None, unwrap_or}
 use Rattle.rendezvous_steps.specs.declared.ends.Beat.{Beat}
 use Rattle.rendezvous_steps.specs.declared.ends.Beat.TheVariants.{Rounds}
 use Rattle.uc_text.specs.Numbers.{number_of}
@@ -72,7 +73,8 @@ with_load before line force names =
     record before { place = InLoad; load = record { line = line; force = force; names = names; beats = [] } }
 
 abbrev pub with_beats : Before → List Beat → Before
-with_beats before beats = record before { place = InLoad; load = record before.load { beats = before.load.beats ++ beats } }
+with_beats before beats =
+    record before { place = InLoad; load = record before.load { beats = before.load.beats ++ beats } }
 
 -- the end of a load makes it a command
 abbrev pub with_end : Before → Before

@@ -27,10 +27,12 @@ pub record Adds (limits : Limits) (before : Before) (line : ℕ × List ℕ) (ne
 -- lines of which each adds to what stands before it
 abbrev pub InTurn : Limits → Before → List (ℕ × List ℕ) → Before → Type 0
 InTurn limits before [] last = before ≡ last
-InTurn limits before (line ∷ lines) last = (next : Before) × Adds limits before line next × InTurn limits next lines last
+InTurn limits before (line ∷ lines) last =
+    (next : Before) × Adds limits before line next × InTurn limits next lines last
 
 -- after what stands at the start, the lines before one add in turn, and this is the first check that fails at that line
-pub record FaultAtLine (limits : Limits) (start : Before) (lines : List (ℕ × List ℕ)) (fault : ScriptFault) : Type 0 where
+pub record FaultAtLine (limits : Limits) (start : Before) (lines : List (ℕ × List ℕ))
+    (fault : ScriptFault) : Type 0 where
   pub front : List (ℕ × List ℕ)
   pub line : ℕ × List ℕ
   pub rest : List (ℕ × List ℕ)
@@ -63,4 +65,5 @@ pub record States (limits : Limits) (text : List ℕ) (script : Stated) : Type 0
 -- the text states nothing, and this is its first fault
 abbrev pub FirstFault : Limits → List ℕ → ScriptFault → Type 0
 FirstFault limits text fault =
-    NoLine (counted_lines text) fault ⊎ FaultAtLine limits opening (counted_lines text) fault ⊎ LoadWithoutEnd limits (counted_lines text) fault
+    NoLine (counted_lines text) fault ⊎ FaultAtLine limits opening (counted_lines text) fault
+    ⊎ LoadWithoutEnd limits (counted_lines text) fault

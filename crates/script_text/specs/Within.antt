@@ -35,7 +35,8 @@ fits_command limits command.Resume = true
 fits_command limits (command.Refuse core) = nat_lt core limits.cores
 fits_command limits (command.Accept core) = nat_lt core limits.cores
 fits_command limits (command.Load force names beats) =
-    (nat_le 1 (length names) && nat_le (length names) 16) && (nat_le (events_of limits beats) 4194304 && list_all (fits_beat limits) beats)
+    (nat_le 1 (length names) && nat_le (length names) 16)
+    && (nat_le (events_of limits beats) 4194304 && list_all (fits_beat limits) beats)
 
 -- what every script keeps to
 pub record IsWithin (limits : Limits) (script : Stated) : Type 0 where

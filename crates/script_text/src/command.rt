@@ -101,8 +101,8 @@ pub enum Command {
     Refuse(u16),
     /// Lets them be taken again.
     Accept(u16),
-    /// Loads from the files of these names while threads run, as the schedule of beats says. With force an update needs a
-    /// minimum revision that the running one reaches.
+    /// Loads from the files of these names while threads run, as the schedule of beats says. With force an update needs
+    /// a minimum revision that the running one reaches.
     Load {
         force: bool,
         names: Names,

@@ -7,8 +7,8 @@ pub enum ScriptCause {
     Word = 2,
     /// A word is no number, or passes 64 bits.
     Number = 3,
-    /// A pool is not 1 to 65,536 blocks, a patience passes 32 bits, there is no such thread or core, or so many rounds are
-    /// not 1 to 65,535.
+    /// A pool is not 1 to 65,536 blocks, a patience passes 32 bits, there is no such thread or core, or so many rounds
+    /// are not 1 to 65,535.
     Range = 4,
     /// A load has no `end`.
     NoEnd = 5,

@@ -60,8 +60,8 @@ pub struct Limits {
 }
 
 impl Form {
-    /// The form, written as a line: `NAME..` stands for one to sixteen names, `[NAME..]` for none to sixteen, `BEAT..` for
-    /// the beats of a schedule, and another word with a capital letter for a number.
+    /// The form, written as a line: `NAME..` stands for one to sixteen names, `[NAME..]` for none to sixteen, `BEAT..`
+    /// for the beats of a schedule, and another word with a capital letter for a number.
     pub fn written(self) -> &'static [u8]
         ensures { result.now ≡ written self }
     {

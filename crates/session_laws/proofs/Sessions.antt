@@ -9,7 +9,8 @@ use Rattle.session_text.specs.declared.answers.Played.{Played}
 use Rattle.session_text.specs.declared.answers.Played.TheVariants as played
 use Rattle.session_steps.specs.State.{Setting, State, opening_state}
 use Rattle.session_steps.specs.Did.{Did}
-use Rattle.session_steps.specs.Session.{StepsFrom, ends_session, left_to_run, heading}
+use Rattle.session_text.specs.Headings.{heading}
+use Rattle.session_steps.specs.Session.{StepsFrom, ends_session, left_to_run}
 use Rattle.session_steps.specs.Calls.{Outside, Situation}
 use Rattle.session_steps.specs.Played.{IsPlayed, LeftBy}
 use Rattle.session_laws.specs.Standing.{Standing, InRange, SessionsStand}

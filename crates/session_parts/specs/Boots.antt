@@ -15,7 +15,8 @@ abbrev pub puts_of : Setting → State → List Entry → List (Option ℕ) → 
 puts_of setting state entries offers = put_offers setting.blocks (bytes_at entries) (Ok (no_puts state.patches)) offers
 
 -- the machine was off; each offer was put, the groups cache them, and every thread came up
-pub record IsBooted (setting : Setting) (entries : List Entry) (offers : List (Option ℕ)) (old new : State) (ups : List BringUp) : Type 0 where
+pub record IsBooted (setting : Setting) (entries : List Entry) (offers : List (Option ℕ)) (old new : State)
+    (ups : List BringUp) : Type 0 where
   pub was_off : is_off old.hardware.power ≡ true
   pub puts : Puts
   pub put : puts_of setting old entries offers ≡ Ok puts

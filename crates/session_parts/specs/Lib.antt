@@ -1,3 +1,4 @@
+pub mod Facts
 pub mod Parts
 pub mod Boots
 pub mod Presence

@@ -1,5 +1,6 @@
 -- The steps of a load.
-use Rattle.std.specs.Prelude.{◌≡◌, ℕ, ◌==◌, nat_lt, Bool, if◌then◌else◌, List, length, slice_index, Option, Some, None, Ok}
+use Rattle.std.specs.Prelude.{◌≡◌, ℕ, ◌==◌, nat_lt, Bool, if◌then◌else◌, List, length, slice_index, Option, Some, None}
+use Rattle.std.specs.Prelude.{Ok}
 use Rattle.file_entries.specs.declared.facts.CoreFacts.{CoreFacts}
 use Rattle.file_entries.specs.Entry.{Entry}
 use Rattle.region_steps.specs.Region.{Patches}

@@ -7,8 +7,8 @@ use ctl_words::Plan;
 use patch_pool::PatchId;
 use uc_select::CoreFacts;
 
-/// What a load finds for each group, and its plan. A function pays for the size of its locals and results, so these tables
-/// are made once, and lent to each load, which fills them anew as far as the machine has groups and threads.
+/// What a load finds for each group, and its plan. A function pays for the size of its locals and results, so these
+/// tables are made once, and lent to each load, which fills them anew as far as the machine has groups and threads.
 #[derive(Drop)]
 pub struct LoadTables {
     /// What the cores of a group are, where it takes part.

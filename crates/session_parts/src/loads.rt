@@ -1,6 +1,7 @@
 //! What a load puts into the region, and what it leaves.
 
-ghost use Rattle.std.specs.Prelude.{◌≡◌, ℕ, ◌<◌, ◌≤◌, true, IsTrue, List, Option, length, slice_index, IfOk, IfErr, Err};
+ghost use Rattle.std.specs.Prelude.{◌≡◌, ℕ, ◌<◌, ◌≤◌, true, IsTrue, List, Option, length, slice_index, IfOk, IfErr};
+ghost use Rattle.std.specs.Prelude.{Err};
 ghost use Rattle.uc_topology.specs.Stated.{group_count};
 ghost use Rattle.file_entries.specs.Entry.{Entry};
 ghost use Rattle.rendezvous_model.specs.Outcome.{Outcome};
@@ -26,8 +27,8 @@ use uc_catalog::Catalog;
 impl Parts {
     ghost use Rattle.session_parts.specs.Parts.{setting_of, state_of};
 
-    /// Puts the patch of each offer into the region; `places` then tells for each group where that of its offer begins. Where
-    /// an entry finds no room, the parts stay as they were.
+    /// Puts the patch of each offer into the region; `places` then tells for each group where that of its offer begins.
+    /// Where an entry finds no room, the parts stay as they were.
     pub fn put_load(
         &mut self,
         catalog: &Catalog,
@@ -37,8 +38,12 @@ impl Parts {
         requires offers { length offers.now ≡ group_count (setting_of self.old).machine.stated.cores }
         requires known { AreEntries catalog.now offers.now }
         requires keeps { IsTrue catalog.now.keeps }
-        ensures put { IfOk result (λ _. IsPut (setting_of self.old) catalog.now.entries offers.now (state_of self.old) (state_of self.new) places.new.items) }
-        ensures full { IfErr result (λ full. (puts_of (setting_of self.old) (state_of self.old) catalog.now.entries offers.now ≡ Err full.needed) × (state_of self.new ≡ state_of self.old)) }
+        ensures put { IfOk result
+            (λ _. IsPut (setting_of self.old) catalog.now.entries offers.now (state_of self.old)
+            (state_of self.new) places.new.items) }
+        ensures full { IfErr result
+            (λ full. (puts_of (setting_of self.old) (state_of self.old) catalog.now.entries offers.now
+            ≡ Err full.needed) × (state_of self.new ≡ state_of self.old)) }
         ensures setting { setting_of self.new ≡ setting_of self.old }
     {
         put_offers(catalog, offers, &mut self.pool, places)
@@ -46,21 +51,26 @@ impl Parts {
 
     /// Frees what a load put at these places: all is then as before the puts.
     pub fn take_back(&mut self, places: &[Option<PatchId>])
-        ensures back { (setting : Setting) (entries : List Entry) (offers : List (Option ℕ)) (before : State) → IsPut setting entries offers before (state_of self.old) places.now → state_of self.new ≡ before }
+        ensures back { (setting : Setting) (entries : List Entry) (offers : List (Option ℕ)) (before : State) →
+            IsPut setting entries offers before (state_of self.old) places.now → state_of self.new ≡ before }
         ensures setting { setting_of self.new ≡ setting_of self.old }
     {
         take_back(places, &mut self.pool);
     }
 
-    /// Keeps what a rendezvous came to: each group is at its revision, each whose revision is now its offer caches the new
-    /// patch, and the region keeps just what is cached. Power is on, no revision is below the present one, and the plan is
-    /// the load's, which put its patches at these places.
+    /// Keeps what a rendezvous came to: each group is at its revision, each whose revision is now its offer caches the
+    /// new patch, and the region keeps just what is cached. Power is on, no revision is below the present one, and the
+    /// plan is the load's, which put its patches at these places.
     pub fn finish_load(&mut self, places: &[Option<PatchId>], plan: &Plan, revs: &[u32])
         requires power { is_on (state_of self.old).hardware.power ≡ true }
         requires places { length places.now ≡ group_count (setting_of self.old).machine.stated.cores }
         requires revs { length revs.now ≡ group_count (setting_of self.old).machine.stated.cores }
-        requires no_lower { (g : ℕ) → g < group_count (setting_of self.old).machine.stated.cores → (state_of self.old).hardware.rev g ≤ slice_index revs.now g }
-        ensures kept { (entries : List Entry) (offers : List (Option ℕ)) (before : State) (outcome : Outcome) (put : IsPut (setting_of self.old) entries offers before (state_of self.old) places.now) → plan_of plan.now ≡ load_plan (setting_of self.old) before put.puts offers → outcome.revs ≡ revs.now → state_of self.new ≡ loaded (setting_of self.old) before put.puts offers (plan_of plan.now) outcome }
+        requires no_lower { (g : ℕ) → g < group_count (setting_of self.old).machine.stated.cores →
+            (state_of self.old).hardware.rev g ≤ slice_index revs.now g }
+        ensures kept { (entries : List Entry) (offers : List (Option ℕ)) (before : State) (outcome : Outcome)
+            (put : IsPut (setting_of self.old) entries offers before (state_of self.old) places.now) →
+            plan_of plan.now ≡ load_plan (setting_of self.old) before put.puts offers → outcome.revs ≡ revs.now →
+            state_of self.new ≡ loaded (setting_of self.old) before put.puts offers (plan_of plan.now) outcome }
         ensures setting { setting_of self.new ≡ setting_of self.old }
     {
         set_revisions(&mut self.machine, revs);
@@ -96,7 +106,8 @@ fn written(place: Option<PatchId>, offer: Option<u32>, rev: u32) -> Option<Patch
 fn keep_written(cache: &mut PatchCache, places: &[Option<PatchId>], plan: &Plan, revs: &[u32])
     requires places { length places.now ≡ groups_of cache.old }
     requires revs { length revs.now ≡ groups_of cache.old }
-    ensures kept { cached_of cache.new ≡ kept_by_plan (plan_of plan.now) places.now revs.now (cached_of cache.old) (groups_of cache.old) }
+    ensures kept { cached_of cache.new
+        ≡ kept_by_plan (plan_of plan.now) places.now revs.now (cached_of cache.old) (groups_of cache.old) }
     ensures size { groups_of cache.new ≡ groups_of cache.old }
 {
     'groups: for g in 0..cache.groups() {

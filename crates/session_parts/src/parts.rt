@@ -15,8 +15,8 @@ use std::alloc::Global;
 use uc_bytes::NoMemory;
 use uc_topology::Topology;
 
-/// The machine that a topology states, the region of patches, and the patch that each group caches. It is large, so keep it
-/// in one place.
+/// The machine that a topology states, the region of patches, and the patch that each group caches. It is large, so
+/// keep it in one place.
 #[derive(Debug, Drop)]
 pub struct Parts {
     pub(crate) topology: Topology,
@@ -31,8 +31,8 @@ pub struct Parts {
 impl Parts {
     ghost use Rattle.session_parts.specs.Parts.{setting_of, state_of};
 
-    /// The parts of a session before its first command, with a region of `pool` blocks, 1 to 65,536, in which a thread of a
-    /// load waits for `patience` polls.
+    /// The parts of a session before its first command, with a region of `pool` blocks, 1 to 65,536, in which a thread
+    /// of a load waits for `patience` polls.
     pub fn new(
         alloc: Global,
         topology: &Topology,
@@ -41,7 +41,8 @@ impl Parts {
     ) -> Result<Parts, NoMemory>
         requires some { 0 < pool }
         requires few { pool ≤ 65536 }
-        ensures setting { IfOk result (λ parts. setting_of parts ≡ record { machine = topology.now; blocks = pool; patience = patience }) }
+        ensures setting { IfOk result
+            (λ parts. setting_of parts ≡ record { machine = topology.now; blocks = pool; patience = patience }) }
         ensures opening { IfOk result (λ parts. state_of parts ≡ opening_state (setting_of parts)) }
     {
         let pool = PatchPool::new(alloc, pool)?;
@@ -61,6 +62,7 @@ impl Parts {
         ensures machine { result.now ≡ (setting_of self.now).machine }
         ensures partition { IsPartition (setting_of self.now).machine.stated }
     {
+        // Read for its contract: every thread is on a core of the machine, and every core in a group.
         let _threads = self.topology.threads();
         &self.topology
     }

@@ -32,8 +32,15 @@ impl Parts {
         requires groups { length places.now ≡ group_count (setting_of self.now).machine.stated.cores }
         requires held { PlacesHeld (state_of self.now).patches places.now }
         ensures tables { TablesFit plan.new }
-        ensures plan { (entries : List Entry) (offers : List (Option ℕ)) (before : State) (put : IsPut (setting_of self.now) entries offers before (state_of self.now) places.now) → plan_of plan.new ≡ load_plan (setting_of self.now) before put.puts offers }
-        ensures sound { (force : Bool) (names : List (List ℕ)) (reads : List Read) (entries : List Entry) (offers : List (Option ℕ)) (before : State) → IsPut (setting_of self.now) entries offers before (state_of self.now) places.now → Standing (setting_of self.now) before → AllPresent (setting_of self.now) before → ReadAll names reads entries → AreLoadOffers (setting_of self.now) before force entries offers → SomethingOffered offers → IsSound plan.new }
+        ensures plan { (entries : List Entry) (offers : List (Option ℕ)) (before : State)
+            (put : IsPut (setting_of self.now) entries offers before (state_of self.now) places.now) →
+            plan_of plan.new ≡ load_plan (setting_of self.now) before put.puts offers }
+        ensures sound { (force : Bool) (names : List (List ℕ)) (reads : List Read) (entries : List Entry)
+            (offers : List (Option ℕ)) (before : State) →
+            IsPut (setting_of self.now) entries offers before (state_of self.now) places.now →
+            Standing (setting_of self.now) before → AllPresent (setting_of self.now) before →
+            ReadAll names reads entries → AreLoadOffers (setting_of self.now) before force entries offers →
+            SomethingOffered offers → IsSound plan.new }
     {
         plan.threads = self.topology.threads();
         self.by_thread(&mut plan.kind, &mut plan.group);
@@ -56,7 +63,8 @@ impl Parts {
 
     /// What each thread is, and its group.
     fn by_thread(&self, kind: &mut ArrayVec<Kind, 256>, group: &mut ArrayVec<u16, 256>)
-        ensures { AreByThread (setting_of self.now) (state_of self.now) (length (setting_of self.now).machine.stated.threads) kind.new.items group.new.items }
+        ensures { AreByThread (setting_of self.now) (state_of self.now)
+            (length (setting_of self.now).machine.stated.threads) kind.new.items group.new.items }
     {
         kind.clear();
         group.clear();
@@ -73,7 +81,8 @@ impl Parts {
         refuse: &mut ArrayVec<bool, 256>,
         rev0: &mut ArrayVec<u32, 256>,
     )
-        ensures { AreByGroup (setting_of self.now) (state_of self.now) (group_count (setting_of self.now).machine.stated.cores) primary.new.items refuse.new.items rev0.new.items }
+        ensures { AreByGroup (setting_of self.now) (state_of self.now)
+            (group_count (setting_of self.now).machine.stated.cores) primary.new.items refuse.new.items rev0.new.items }
     {
         primary.clear();
         refuse.clear();
@@ -102,7 +111,8 @@ impl Parts {
     )
         requires few { length places.now ≤ 256 }
         requires held { PlacesHeld (state_of self.now).patches places.now }
-        ensures { revisions.new.items ≡ map (revision_put (state_of self.now).patches places.now) (range_with_len 0 (length places.now)) }
+        ensures { revisions.new.items
+            ≡ map (revision_put (state_of self.now).patches places.now) (range_with_len 0 (length places.now)) }
     {
         revisions.clear();
         'groups: for g in 0..places.len() {

@@ -45,6 +45,7 @@ impl Parts {
         requires { t < length (setting_of self.now).machine.stated.threads }
         ensures { result ≡ is_lead (setting_of self.now) (state_of self.now) t }
     {
+        // Read for its contract: every thread is on a core of the machine, and every core in a group.
         let _threads = self.topology.threads();
         let core = self.topology.core_of(t);
         t == self.topology.lead_of(core) && self.core_takes_part(core)

@@ -14,7 +14,8 @@ ended ends = record { decide = 0; ends = ends; revs = [] }
 -- a thread of the core takes part
 unfoldable pub takes_part : Machine → Plan → ℕ → Bool
 takes_part machine plan core =
-    list_any (λ t. (slice_index machine.stated.threads t == core) && not (is_absent (plan.kind t))) (range_with_len 0 (length machine.stated.threads))
+    list_any (λ t. (slice_index machine.stated.threads t == core) && not (is_absent (plan.kind t)))
+    (range_with_len 0 (length machine.stated.threads))
 
 -- the line of a core of one that does, at the revision of its group; before is that of a group past the list's end
 abbrev pub line_of_core : Machine → Plan → List ℕ → (ℕ → ℕ) → ℕ → List ℕ

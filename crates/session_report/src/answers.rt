@@ -27,7 +27,8 @@ fn put_word<S: Sink>(out: &mut S, word: &str) -> Result<(), SinkFailed>
 /// `answer WORD N`, the word being given with the space behind it. It has at most 20 bytes.
 fn put_numbered<S: Sink>(out: &mut S, word: &str, number: u64) -> Result<(), SinkFailed>
     requires { length word.now ≤ 20 }
-    ensures { Writes S.stands S.faults out.old out.new (codes "answer " ++ word.now ++ decimal number ++ codes "\n") result }
+    ensures { Writes S.stands S.faults out.old out.new
+        (codes "answer " ++ word.now ++ decimal number ++ codes "\n") result }
 {
     let mut line = Line::new();
     line.put(b"\n");
@@ -63,7 +64,8 @@ fn name_at<'a>(names: &'a [Text], file: u16) -> &'a [u8]
 
 /// `answer bad-file NAME at OFFSET CAUSE`.
 fn put_bad_file<S: Sink>(out: &mut S, name: &[u8], fault: FileFault) -> Result<(), SinkFailed>
-    ensures { Writes S.stands S.faults out.old out.new (codes "answer " ++ bad_file_text name.now fault ++ codes "\n") result }
+    ensures { Writes S.stands S.faults out.old out.new
+        (codes "answer " ++ bad_file_text name.now fault ++ codes "\n") result }
 {
     let offset = dec(fault.offset);
     let cause = cause_text(fault.cause);
@@ -83,7 +85,8 @@ fn put_bad_file<S: Sink>(out: &mut S, name: &[u8], fault: FileFault) -> Result<(
 
 /// `answer read-fault NAME`.
 fn put_read_fault<S: Sink>(out: &mut S, name: &[u8]) -> Result<(), SinkFailed>
-    ensures { Writes S.stands S.faults out.old out.new (codes "answer " ++ (codes "read-fault " ++ name.now) ++ codes "\n") result }
+    ensures { Writes S.stands S.faults out.old out.new
+        (codes "answer " ++ (codes "read-fault " ++ name.now) ++ codes "\n") result }
 {
     write_line(out, &[b"answer read-fault ", name, b"\n"])
 }

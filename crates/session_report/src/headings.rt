@@ -2,7 +2,7 @@
 ghost use Rattle.std.specs.Prelude.{◌≡◌, ◌+◌, ◌≤◌, ◌++◌, length};
 ghost use Rattle.uc_io.specs.Writing.{Writes};
 ghost use Rattle.session_text.specs.Lines.{command_line, number_text};
-ghost use Rattle.session_steps.specs.Session.{heading, number_in, word_of};
+ghost use Rattle.session_text.specs.Headings.{heading, number_in, word_of};
 
 use script_text::Command;
 use uc_io::{Sink, SinkFailed};

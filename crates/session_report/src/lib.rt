@@ -14,6 +14,3 @@ pub use answers::put_answer;
 pub use headings::put_heading;
 pub use lines::{put_core, put_cpu, put_load_offer, put_up, put_ups};
 pub use loads::{put_load_offers, put_results};
-
-#[cfg(test)]
-mod tests;

@@ -36,8 +36,9 @@ fn put_offered<S: Sink>(
     }
 }
 
-/// The lines of what a load offers: one for each core of a group with an offer, in ascending order, also where no thread of
-/// the core takes part. There is one offer for each group, an entry of the catalogue or none, and the plan is the load's.
+/// The lines of what a load offers: one for each core of a group with an offer, in ascending order, also where no
+/// thread of the core takes part. There is one offer for each group, an entry of the catalogue or none, and the plan is
+/// the load's.
 pub fn put_load_offers<S: Sink>(
     out: &mut S,
     topology: &Topology,
@@ -47,7 +48,10 @@ pub fn put_load_offers<S: Sink>(
 ) -> Result<(), SinkFailed>
     requires count { length offers.now ≡ group_count topology.now.stated.cores }
     requires within { All (λ offer. IfSome offer (λ number. number < length catalog.now.entries)) offers.now }
-    ensures { (setting : Setting) (state : State) (puts : Puts) (offered : List (Option ℕ)) → setting.machine ≡ topology.now → plan_of plan.now ≡ load_plan setting state puts offered → Writes S.stands S.faults out.old out.new (load_offers_text setting state catalog.now.entries offers.now) result }
+    ensures { (setting : Setting) (state : State) (puts : Puts) (offered : List (Option ℕ)) →
+        setting.machine ≡ topology.now → plan_of plan.now ≡ load_plan setting state puts offered →
+        Writes S.stands S.faults out.old out.new
+        (load_offers_text setting state catalog.now.entries offers.now) result }
 {
     'cores: for core in 0..topology.cores() {
         let group = topology.group_of_core(core);
@@ -59,7 +63,8 @@ pub fn put_load_offers<S: Sink>(
 
 /// The line of a thread that took part; there is none of one that did not.
 fn put_thread<S: Sink>(out: &mut S, plan: &Plan, ends: &[End], t: u16) -> Result<(), SinkFailed>
-    ensures { Writes S.stands S.faults out.old out.new (cpu_text ((plan_of plan.now).kind t) t (ended ends.now)) result }
+    ensures { Writes S.stands S.faults out.old out.new
+        (cpu_text ((plan_of plan.now).kind t) t (ended ends.now)) result }
 {
     if plan.kind_of(t).is_absent() {
         return Ok(());
@@ -70,7 +75,9 @@ fn put_thread<S: Sink>(out: &mut S, plan: &Plan, ends: &[End], t: u16) -> Result
 
 /// The lines of the threads that took part.
 fn put_threads<S: Sink>(out: &mut S, plan: &Plan, ends: &[End]) -> Result<(), SinkFailed>
-    ensures { Writes S.stands S.faults out.old out.new (flat_map (λ t. cpu_text ((plan_of plan.now).kind t) t (ended ends.now)) (range_with_len 0 plan.now.threads)) result }
+    ensures { Writes S.stands S.faults out.old out.new
+        (flat_map (λ t. cpu_text ((plan_of plan.now).kind t) t (ended ends.now)) (range_with_len 0 plan.now.threads))
+        result }
 {
     'threads: for t in 0..plan.threads {
         put_thread(out, plan, ends, t)?;
@@ -100,7 +107,9 @@ fn put_core_where<S: Sink>(
 ) -> Result<(), SinkFailed>
     requires core { core < length topology.now.stated.cores }
     requires revs { length revs.now ≡ group_count topology.now.stated.cores }
-    ensures { (before : ℕ → ℕ) → Writes S.stands S.faults out.old out.new (line_of_core topology.now (plan_of plan.now) revs.now before core) result }
+    ensures { (before : ℕ → ℕ) →
+        Writes S.stands S.faults out.old out.new
+        (line_of_core topology.now (plan_of plan.now) revs.now before core) result }
 {
     if !takes_part(topology, plan, core) {
         return Ok(());
@@ -116,7 +125,10 @@ fn put_cores<S: Sink>(
     revs: &[u32],
 ) -> Result<(), SinkFailed>
     requires { length revs.now ≡ group_count topology.now.stated.cores }
-    ensures { (before : ℕ → ℕ) → Writes S.stands S.faults out.old out.new (flat_map (line_of_core topology.now (plan_of plan.now) revs.now before) (range_with_len 0 (length topology.now.stated.cores))) result }
+    ensures { (before : ℕ → ℕ) →
+        Writes S.stands S.faults out.old out.new
+        (flat_map (line_of_core topology.now (plan_of plan.now) revs.now before)
+        (range_with_len 0 (length topology.now.stated.cores))) result }
 {
     'cores: for core in 0..topology.cores() {
         put_core_where(out, topology, plan, revs, core)?;
@@ -124,8 +136,8 @@ fn put_cores<S: Sink>(
     Ok(())
 }
 
-/// The lines of what a rendezvous came to: each thread that took part with its end, and each core of one with the revision
-/// of its group. The plan is the load's, and there is one revision for each group.
+/// The lines of what a rendezvous came to: each thread that took part with its end, and each core of one with the
+/// revision of its group. The plan is the load's, and there is one revision for each group.
 pub fn put_results<S: Sink>(
     out: &mut S,
     topology: &Topology,
@@ -134,7 +146,11 @@ pub fn put_results<S: Sink>(
     revs: &[u32],
 ) -> Result<(), SinkFailed>
     requires { length revs.now ≡ group_count topology.now.stated.cores }
-    ensures { (setting : Setting) (state : State) (puts : Puts) (offered : List (Option ℕ)) (decide : ℕ) → setting.machine ≡ topology.now → plan_of plan.now ≡ load_plan setting state puts offered → Writes S.stands S.faults out.old out.new (results_text setting state (plan_of plan.now) (record { decide = decide; ends = ends.now; revs = revs.now })) result }
+    ensures { (setting : Setting) (state : State) (puts : Puts) (offered : List (Option ℕ)) (decide : ℕ) →
+        setting.machine ≡ topology.now → plan_of plan.now ≡ load_plan setting state puts offered →
+        Writes S.stands S.faults out.old out.new
+        (results_text setting state (plan_of plan.now) (record { decide = decide; ends = ends.now; revs = revs.now }))
+        result }
 {
     put_threads(out, plan, ends)?;
     put_cores(out, topology, plan, revs)

@@ -1,5 +1,6 @@
 -- What a command did.
-use Rattle.std.specs.Prelude.{ℕ, ◌==◌, if◌then◌else◌, List, [], ◌++◌, length, Option, Some, None, Result, Ok, Err, flat_map, slice_index_or}
+use Rattle.std.specs.Prelude.{ℕ, ◌==◌, if◌then◌else◌, List, [], ◌++◌, length, Option, Some, None, Result, Ok, Err}
+use Rattle.std.specs.Prelude.{flat_map, slice_index_or}
 use Rattle.std.specs.List.{range_with_len}
 use Rattle.file_reads.specs.Reads.{Read}
 use Rattle.rendezvous_steps.specs.declared.steps.Kind.{Kind}
@@ -53,7 +54,8 @@ ups_text ups = flat_map up_line ups
 
 -- by a row in which threads come up, each with its line
 abbrev pub by_bring_ups : State → Result AllBrought HotAnswer → Did
-by_bring_ups state (Ok brought) = record (only (with_hardware state brought.after) [] Done) { told = ups_text brought.ups }
+by_bring_ups state (Ok brought) =
+    record (only (with_hardware state brought.after) [] Done) { told = ups_text brought.ups }
 by_bring_ups state (Err answer) = only state [] (Hot answer)
 
 -- A load whose rendezvous came to an outcome.
@@ -69,7 +71,8 @@ revision_after state outcome g = slice_index_or outcome.revs g (state.hardware.r
 
 abbrev pub core_text : Setting → State → Outcome → ℕ → List ℕ
 core_text setting state outcome core =
-    if core_takes_part setting state core then core_line core (revision_after state outcome (group_of_core setting core)) else []
+    if core_takes_part setting state core
+    then core_line core (revision_after state outcome (group_of_core setting core)) else []
 
 unfoldable pub results_text : Setting → State → Plan → Outcome → List ℕ
 results_text setting state plan outcome =

@@ -1,5 +1,6 @@
 -- What a load offers, and the plan that its rendezvous sets out with.
-use Rattle.std.specs.Prelude.{◌≡◌, ℕ, ◌<◌, nat_lt, Bool, true, false, if◌then◌else◌, List, [], length, Option, Some, None, option_map, flat_map, slice_index_or}
+use Rattle.std.specs.Prelude.{◌≡◌, ℕ, ◌<◌, nat_lt, Bool, true, false, if◌then◌else◌, List, [], length, Option, Some}
+use Rattle.std.specs.Prelude.{None, option_map, flat_map, slice_index_or}
 use Rattle.std.specs.List.{range_with_len}
 use Rattle.uc_topology.specs.Stated.{core_at, group_of, group_count, group_facts, primary}
 use Rattle.file_entries.specs.declared.facts.CoreFacts.{CoreFacts}
@@ -40,7 +41,8 @@ IsOfferWhere true entries core force offer = IsOffer entries core force offer
 IsOfferWhere false entries core force offer = offer ≡ None
 
 -- each group that takes part has its offer at its present revision, and no other group has one
-pub record AreLoadOffers (setting : Setting) (state : State) (force : Bool) (entries : List Entry) (offers : List (Option ℕ)) : Type 0 where
+pub record AreLoadOffers (setting : Setting) (state : State) (force : Bool) (entries : List Entry)
+    (offers : List (Option ℕ)) : Type 0 where
   pub count : length offers ≡ group_count setting.machine.stated.cores
   pub each :
       (g : ℕ) → g < group_count setting.machine.stated.cores →
@@ -68,7 +70,8 @@ group_of_core setting core = group_of (core_at setting.machine.stated.cores core
 unfoldable pub load_offers_text : Setting → State → List Entry → List (Option ℕ) → List ℕ
 load_offers_text setting state entries offers =
     flat_map
-    (λ core. offered_text entries core (state.hardware.rev (group_of_core setting core)) (offer_of offers (group_of_core setting core)))
+    (λ core. offered_text entries core (state.hardware.rev (group_of_core setting core))
+    (offer_of offers (group_of_core setting core)))
     (range_with_len 0 (length setting.machine.stated.cores))
 
 -- The plan. Past the ends of its tables no thread takes part, and no group has an offer.

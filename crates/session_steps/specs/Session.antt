@@ -1,51 +1,21 @@
--- A session: its commands one after another, from the opening state on, until they end or one ends the session; the text that
--- it writes; and what it answers.
-use Rattle.std.specs.Prelude.{ℕ, ◌+◌, Bool, true, false, ◌&&◌, List, [], ◌∷◌, ◌++◌, Option, Some, None, codes}
+-- A session: its commands one after another, from the opening state on, until they end or one ends the session; the
+-- text that it writes; and what it answers.
+use Rattle.std.specs.Prelude.{ℕ, ◌+◌, Bool, true, false, ◌&&◌, List, [], ◌∷◌, ◌++◌, Option, Some, None}
 use Rattle.file_reads.specs.Reads.{Read}
 use Rattle.rendezvous_rule.specs.Runs.{RunOf}
 use Rattle.script_text.specs.declared.command.Command.{Command}
-use Rattle.script_text.specs.declared.command.Command.TheVariants as command
 use Rattle.session_text.specs.declared.answers.CommandAnswer.{CommandAnswer}
 use Rattle.session_text.specs.declared.answers.CommandAnswer.TheVariants.{Done, Load}
 use Rattle.session_text.specs.declared.answers.LoadAnswer.TheVariants as load
 use Rattle.session_text.specs.declared.answers.SessionAnswer.{SessionAnswer}
 use Rattle.session_text.specs.declared.answers.SessionAnswer.TheVariants as session
-use Rattle.session_text.specs.Lines.{command_line, answer_line}
+use Rattle.session_text.specs.Headings.{heading, names_in}
+use Rattle.session_text.specs.Lines.{answer_line}
 use Rattle.session_steps.specs.State.{Setting, State, opening_state}
 use Rattle.session_steps.specs.Did.{Did}
 use Rattle.session_steps.specs.Step.{SessionStep}
 
 -- The text of a command.
-
-abbrev pub load_word : Bool → List ℕ
-load_word true = codes "load-force"
-load_word false = codes "load"
-
-abbrev pub word_of : Command → List ℕ
-word_of (command.Boot names) = codes "boot"
-word_of (command.Online t) = codes "online"
-word_of (command.Offline t) = codes "offline"
-word_of command.Suspend = codes "suspend"
-word_of command.Resume = codes "resume"
-word_of (command.Refuse core) = codes "refuse"
-word_of (command.Accept core) = codes "accept"
-word_of (command.Load force names beats) = load_word force
-
--- the thread or core that a command is for
-abbrev pub number_in : Command → Option ℕ
-number_in (command.Online t) = Some t
-number_in (command.Offline t) = Some t
-number_in (command.Refuse core) = Some core
-number_in (command.Accept core) = Some core
-number_in other = None
-
-abbrev pub names_in : Command → List (List ℕ)
-names_in (command.Boot names) = names
-names_in (command.Load force names beats) = names
-names_in other = []
-
-abbrev pub heading : ℕ → Command → List ℕ
-heading k one = command_line k (word_of one) (number_in one)
 
 -- the heading, what the command did, and its answer; commands are numbered from 1
 unfoldable pub text_of : ℕ → Command → Did → List ℕ
@@ -94,8 +64,8 @@ abbrev pub all_runs : List Did → List RunOf
 all_runs [] = []
 all_runs (did ∷ dids) = with_run did.ran (all_runs dids)
 
--- What the session answers: what ended it early, where that is a fault of a file or a thread that halted; else whether all was
--- done.
+-- What the session answers: what ended it early, where that is a fault of a file or a thread that halted; else whether
+-- all was done.
 
 abbrev pub is_done : CommandAnswer → Bool
 is_done Done = true

@@ -13,8 +13,8 @@ pub record Setting : Type 0 where
   pub blocks : ℕ
   pub patience : ℕ
 
--- the machine's state, the patches in the region by the block at which they begin, and where the patch begins that a group
--- caches
+-- the machine's state, the patches in the region by the block at which they begin, and where the patch begins that a
+-- group caches
 pub record State : Type 0 where
   pub hardware : Hardware
   pub patches : Patches
@@ -45,13 +45,15 @@ core_of setting t = slice_index setting.machine.stated.threads t
 
 unfoldable pub core_takes_part : Setting → State → ℕ → Bool
 core_takes_part setting state core =
-    list_any (λ t. (core_of setting t == core) && not (is_cold (state.hardware.thread t))) (threads_of (machine_of setting))
+    list_any (λ t. (core_of setting t == core) && not (is_cold (state.hardware.thread t)))
+    (threads_of (machine_of setting))
 
 -- A load wants the primary of each group that takes part to be up, and the lowest thread of each core that does.
 
 abbrev pub is_needed : Setting → State → ℕ → Bool
 is_needed setting state t =
-    ((t == primary setting.machine.stated ((machine_of setting).group t)) && takes_part setting state ((machine_of setting).group t))
+    ((t == primary setting.machine.stated ((machine_of setting).group t))
+    && takes_part setting state ((machine_of setting).group t))
     || ((t == lead setting.machine.stated (core_of setting t)) && core_takes_part setting state (core_of setting t))
 
 abbrev pub is_missing : Setting → State → ℕ → Bool

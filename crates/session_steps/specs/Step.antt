@@ -1,6 +1,7 @@
 -- One command of a session, row by row. A row has the answers in the order in which they are given, and each answer its
 -- condition and what the command did.
-use Rattle.std.specs.Prelude.{◌≡◌, ℕ, suc, Bool, true, false, List, [], ◌∷◌, ◌++◌, length, Option, Some, None, Result, Ok, Err}
+use Rattle.std.specs.Prelude.{◌≡◌, ℕ, suc, Bool, true, false, List, [], ◌∷◌, ◌++◌, length, Option, Some, None, Result}
+use Rattle.std.specs.Prelude.{Ok, Err}
 use Rattle.uc_bytes.specs.declared.causes.FileFault.{FileFault}
 use Rattle.file_entries.specs.Reading.{Reading}
 use Rattle.file_entries.specs.Entry.{Entry, entries_from}
@@ -28,7 +29,8 @@ use Rattle.session_text.specs.declared.answers.CommandAnswer.{CommandAnswer}
 use Rattle.session_text.specs.declared.answers.CommandAnswer.TheVariants.{Done, Hot, Load}
 use Rattle.session_text.specs.declared.answers.LoadAnswer.TheVariants as load
 use Rattle.session_steps.specs.State.{Setting, State, machine_of, cached_patches, first_missing}
-use Rattle.session_steps.specs.Offers.{bytes_at, offer_of, AreLoadOffers, NothingOffered, SomethingOffered, load_offers_text, group_of_core, plan_of}
+use Rattle.session_steps.specs.Offers.{bytes_at, offer_of, AreLoadOffers, NothingOffered, SomethingOffered}
+use Rattle.session_steps.specs.Offers.{load_offers_text, group_of_core, plan_of}
 use Rattle.session_steps.specs.Did.{Did, only, by_row, by_bring_ups, ups_text, results_text, loaded}
 
 -- Files that are not all read and accepted.
@@ -41,7 +43,8 @@ pub record StopsUnread (state : State) (names : List (List ℕ)) (file : ℕ) (d
   pub did_only : did ≡ only state did.reads (Load (load.ReadFault file))
 
 -- the file at this place was read, and is refused
-pub record StopsRefused (state : State) (names : List (List ℕ)) (file : ℕ) (fault : FileFault) (did : Did) : Type 0 where
+pub record StopsRefused (state : State) (names : List (List ℕ)) (file : ℕ) (fault : FileFault)
+    (did : Did) : Type 0 where
   pub name : List ℕ
   pub come : Reads names did.reads (Refused name fault.offset fault.cause)
   pub place : length did.reads ≡ suc file
@@ -86,7 +89,8 @@ pub record Boots (setting : Setting) (state : State) (names : List (List ℕ)) (
   pub put : put_offers setting.blocks (bytes_at entries) (Ok (no_puts state.patches)) offers ≡ Ok puts
   pub does : did ≡ booted setting state did.reads puts offers (brought_at_boot setting state puts offers)
 
-pub record BootIsFull (setting : Setting) (state : State) (names : List (List ℕ)) (needed : ℕ) (did : Did) : Type 0 where
+pub record BootIsFull (setting : Setting) (state : State) (names : List (List ℕ)) (needed : ℕ)
+    (did : Did) : Type 0 where
   pub entries : List Entry
   pub read : ReadAll names did.reads entries
   pub offers : List (Option ℕ)
@@ -102,12 +106,14 @@ BootFiles setting state names did Done = Boots setting state names did
 BootFiles setting state names did answer = ⊥
 
 abbrev pub BootRow : Setting → State → List (List ℕ) → Did → CommandAnswer → Type 0
-BootRow setting state names did (Hot Booted) = (is_off state.hardware.power ≡ false) × (did ≡ only state [] (Hot Booted))
+BootRow setting state names did (Hot Booted) =
+    (is_off state.hardware.power ≡ false) × (did ≡ only state [] (Hot Booted))
 BootRow setting state names did answer = (is_off state.hardware.power ≡ true) × BootFiles setting state names did answer
 
 -- A load without a reboot.
 
-pub record FindsNothing (setting : Setting) (state : State) (force : Bool) (names : List (List ℕ)) (did : Did) : Type 0 where
+pub record FindsNothing (setting : Setting) (state : State) (force : Bool) (names : List (List ℕ))
+    (did : Did) : Type 0 where
   pub entries : List Entry
   pub read : ReadAll names did.reads entries
   pub offers : List (Option ℕ)
@@ -115,7 +121,8 @@ pub record FindsNothing (setting : Setting) (state : State) (force : Bool) (name
   pub nothing : NothingOffered offers
   pub did_only : did ≡ only state did.reads (Load load.NotFound)
 
-pub record LoadIsFull (setting : Setting) (state : State) (force : Bool) (names : List (List ℕ)) (needed : ℕ) (did : Did) : Type 0 where
+pub record LoadIsFull (setting : Setting) (state : State) (force : Bool) (names : List (List ℕ)) (needed : ℕ)
+    (did : Did) : Type 0 where
   pub entries : List Entry
   pub read : ReadAll names did.reads entries
   pub offers : List (Option ℕ)
@@ -133,7 +140,8 @@ answer_of (verdict.TimedOut t) = Load (load.TimedOut t)
 answer_of (verdict.Failed t) = Load (load.Failed t)
 answer_of (verdict.Incomplete t) = Load (load.Incomplete t)
 
-unfoldable pub met : Setting → State → List Read → List Entry → Puts → List (Option ℕ) → Plan → List ℕ → RunOf → CommandAnswer → Did
+unfoldable pub met : Setting → State → List Read → List Entry → Puts → List (Option ℕ) → Plan → List ℕ → RunOf →
+    CommandAnswer → Did
 met setting state reads entries puts offers plan items ran answer = record {
   reads = reads;
   shown = load_offers_text setting state entries offers ++ items;
@@ -147,7 +155,8 @@ abbrev pub run_of : Plan → Outcome → Bool → RunOf
 run_of plan outcome late = record { plan = plan; outcome = outcome; late = late }
 
 -- the threads meet for what is offered, and the answer is the verdict on what comes out
-pub record Meets (lists : Bool) (setting : Setting) (state : State) (force : Bool) (names : List (List ℕ)) (beats : List Beat) (did : Did) (answer : CommandAnswer) : Type 0 where
+pub record Meets (lists : Bool) (setting : Setting) (state : State) (force : Bool) (names : List (List ℕ))
+    (beats : List Beat) (did : Did) (answer : CommandAnswer) : Type 0 where
   pub entries : List Entry
   pub read : ReadAll names did.reads entries
   pub offers : List (Option ℕ)
@@ -175,9 +184,11 @@ AllPresent setting state = first_missing setting state ≡ None
 abbrev pub LoadFiles : Bool → Setting → State → Bool → List (List ℕ) → List Beat → Did → CommandAnswer → Type 0
 LoadFiles lists setting state force names beats did (Hot answer) = ⊥
 LoadFiles lists setting state force names beats did (Load (load.ReadFault file)) = StopsUnread state names file did
-LoadFiles lists setting state force names beats did (Load (load.BadFile file fault)) = StopsRefused state names file fault did
+LoadFiles lists setting state force names beats did (Load (load.BadFile file fault)) =
+    StopsRefused state names file fault did
 LoadFiles lists setting state force names beats did (Load load.NotFound) = FindsNothing setting state force names did
-LoadFiles lists setting state force names beats did (Load (load.PoolFull needed)) = LoadIsFull setting state force names needed did
+LoadFiles lists setting state force names beats did (Load (load.PoolFull needed)) =
+    LoadIsFull setting state force names needed did
 LoadFiles lists setting state force names beats did answer = Meets lists setting state force names beats did answer
 
 abbrev pub LoadRow : Bool → Setting → State → Bool → List (List ℕ) → List Beat → Did → CommandAnswer → Type 0
@@ -190,7 +201,8 @@ LoadRow lists setting state force names beats did answer =
 
 -- the one thread comes up, where the machine lets it
 abbrev pub online_from : Setting → State → ℕ → Result Hardware HotAnswer → Result AllBrought HotAnswer
-online_from setting state t (Ok hardware) = Ok (bring_up_each (machine_of setting) (cached_patches state) hardware (t ∷ []))
+online_from setting state t (Ok hardware) =
+    Ok (bring_up_each (machine_of setting) (cached_patches state) hardware (t ∷ []))
 online_from setting state t (Err answer) = Err answer
 
 abbrev pub online : Setting → State → ℕ → Result AllBrought HotAnswer
@@ -204,9 +216,11 @@ abbrev pub SessionStep : Bool → Setting → State → Command → Did → Type
 SessionStep lists setting state (command.Boot names) did = BootRow setting state names did did.answer
 SessionStep lists setting state (command.Online t) did = did ≡ by_bring_ups state (online setting state t)
 SessionStep lists setting state (command.Offline t) did = did ≡ by_row state (calls.soft_offline state.hardware t)
-SessionStep lists setting state command.Suspend did = did ≡ by_row state (calls.suspend (machine_of setting) state.hardware)
+SessionStep lists setting state command.Suspend did =
+    did ≡ by_row state (calls.suspend (machine_of setting) state.hardware)
 SessionStep lists setting state command.Resume did =
     did ≡ by_bring_ups state (resume (machine_of setting) (cached_patches state) state.hardware)
 SessionStep lists setting state (command.Refuse core) did = did ≡ set_refusal setting state core true
 SessionStep lists setting state (command.Accept core) did = did ≡ set_refusal setting state core false
-SessionStep lists setting state (command.Load force names beats) did = LoadRow lists setting state force names beats did did.answer
+SessionStep lists setting state (command.Load force names beats) did =
+    LoadRow lists setting state force names beats did did.answer

@@ -23,12 +23,14 @@ SinkCauseAt session.WriteFault before now = Rose before now
 SinkCauseAt answer before now = now ≡ before
 
 -- commands that may have run, from the opening state on: what was read is what the files hold, where they tell
-pub record MayPlay (lists : Bool) (held : List Read → Type 0) (setting : Setting) (commands : List Command) (dids : List Did) : Type 0 where
+pub record MayPlay (lists : Bool) (held : List Read → Type 0) (setting : Setting) (commands : List Command)
+    (dids : List Did) : Type 0 where
   pub steps : Steps lists setting commands dids
   pub is_held : held (all_reads dids)
 
 -- each command was answered, up to the last or to one that ended the session, and its whole text was written
-pub record PlaysWhole {D : Type 0} (outside : Outside D) (setting : Setting) (commands : List Command) (before now : Surroundings D) (answer : SessionAnswer) : Type 0 where
+pub record PlaysWhole {D : Type 0} (outside : Outside D) (setting : Setting) (commands : List Command)
+    (before now : Surroundings D) (answer : SessionAnswer) : Type 0 where
   pub dids : List Did
   pub may : MayPlay outside.lists outside.held setting commands dids
   pub is_answer : answer ≡ session_answer dids
@@ -37,7 +39,8 @@ pub record PlaysWhole {D : Type 0} (outside : Outside D) (setting : Setting) (co
   pub kept : outside.lists ≡ false → now.runs ≡ before.runs ++ all_runs dids
 
 -- a front of a session's text was written: one of an unread file only where the files' count rose
-pub record PlaysFront {D : Type 0} (outside : Outside D) (setting : Setting) (commands : List Command) (before now : Surroundings D) : Type 0 where
+pub record PlaysFront {D : Type 0} (outside : Outside D) (setting : Setting) (commands : List Command)
+    (before now : Surroundings D) : Type 0 where
   pub dids : List Did
   pub may : MayPlay outside.lists outside.held setting commands dids
   pub front : List ℕ
@@ -45,7 +48,8 @@ pub record PlaysFront {D : Type 0} (outside : Outside D) (setting : Setting) (co
   pub grew : Grew outside.stands before.sink now.sink front
   pub by_fault : IsTrue (is_unread (session_answer dids)) → Rose before.files now.files
 
-abbrev pub IsPlayedThrough : {D : Type 0} → Outside D → Setting → List Command → Surroundings D → Surroundings D → SessionAnswer → Type 0
+abbrev pub IsPlayedThrough : {D : Type 0} → Outside D → Setting → List Command → Surroundings D → Surroundings D →
+    SessionAnswer → Type 0
 IsPlayedThrough outside setting commands before now session.WriteFault =
     PlaysFront outside setting commands before now × Rose (outside.faults before.sink) (outside.faults now.sink)
 IsPlayedThrough outside setting commands before now session.NoMemory = PlaysFront outside setting commands before now

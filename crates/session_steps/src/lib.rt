@@ -8,6 +8,6 @@
 //! - `Did`: what a command did. `Step`: each command's answers in their order, with what each does.
 //! - `Session`: commands one after another, their text, and what the session answers.
 //! - `Calls`: what the outside of a session means, and what a call finds and leaves.
-//! - `Played`: what a call that runs one command came to, also where a write fails or memory runs out. `Whole`: the same of
-//!   a call that runs all commands of a script.
+//! - `Played`: what a call that runs one command came to, also where a write fails or memory runs out. `Whole`: the
+//!   same of a call that runs all commands of a script.
 #![tactic(auto)]

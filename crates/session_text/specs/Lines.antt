@@ -36,12 +36,14 @@ written_text written.Refused = codes " refused"
 
 -- a thread that came up, the revision of its group then, and whether a write was made or refused
 unfoldable pub up_line : BringUp → List ℕ
-up_line up = codes "up " ++ decimal up.thread ++ codes " rev " ++ hex8_of up.rev ++ written_text up.written ++ codes "\n"
+up_line up =
+    codes "up " ++ decimal up.thread ++ codes " rev " ++ hex8_of up.rev ++ written_text up.written ++ codes "\n"
 
 -- a core at a revision, and the entry that a load offers its group
 unfoldable pub load_offer_line : ℕ → ℕ → ℕ → EntryFacts → List ℕ
 load_offer_line core rev number facts =
-    codes "offer core " ++ decimal core ++ codes " entry " ++ decimal number ++ codes " len " ++ decimal facts.len ++ codes " rev "
+    codes "offer core " ++ decimal core ++ codes " entry " ++ decimal number ++ codes " len " ++ decimal facts.len
+    ++ codes " rev "
     ++ hex8_of facts.rev
     ++ safe_text facts.vendor facts.min rev
     ++ codes "\n"

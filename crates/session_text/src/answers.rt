@@ -3,8 +3,8 @@
 use machine_steps::HotAnswer;
 use uc_bytes::FileFault;
 
-/// What a load without a reboot answers. A file is known by its place among the names, from 0; other numbers are those of
-/// threads, where nothing else is said.
+/// What a load without a reboot answers. A file is known by its place among the names, from 0; other numbers are those
+/// of threads, where nothing else is said.
 #[derive(Clone, Copy, Debug, PartialEq, Eq)]
 pub enum LoadAnswer {
     /// Every group that takes part runs what it was offered.

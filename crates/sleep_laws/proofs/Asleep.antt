@@ -27,10 +27,10 @@ use Rattle.session_steps.specs.Session.{is_done}
 use Rattle.session_laws.specs.Standing.{Standing, InRange, OpeningStands, StepsStand}
 use Rattle.session_laws.specs.Lent.{LoadsLend}
 use Rattle.session_laws.proofs.Parts.{something_is_on}
-use Rattle.session_runs.specs.SoFar.{StepsTo}
+use Rattle.cut_laws.specs.SoFar.{StepsTo}
 use Rattle.sleep_laws.specs.PowerUp.{at_power_up, IsBacked}
 use Rattle.sleep_laws.specs.Sleep.{asleep_since, SleepsSince, SuspendsSleep, SleepGoesOn, Resumes, refuses_patch, BroughtBack, ResumesBringBack}
-use Rattle.sleep_laws.proofs.Coming.{IsIn, is_in, cold_where, stay, comes, comes_up}
+use Rattle.sleep_laws.proofs.Coming.{IsIn, is_in, cold_where, stay, refusing_stays, comes, comes_up}
 use Rattle.sleep_laws.proofs.Backed.{stands_to, state_is_backed}
 
 -- ---- a suspend
@@ -204,11 +204,19 @@ module _ (setting : Setting) (before : State) (refuses : ℕ → Bool) where
           (cold_where (machine_of setting) woken g (λ u. refl)) refl
     ]
 
+    stayed : refuses_patch setting asleep g ≡ true → resumed.rev g ≡ bios
+    stayed some = elim (cases_Bool (refuses g)) [
+      | inl refusing ↦ refusing_stays (machine_of setting) patches woken g their refusing
+      | inr willing ↦
+          absurd (false≢true (sym (ap (λ (b : Bool). b && is_some (above bios (cached_patches before g))) willing) ∙ some))
+    ]
+
     back : IsPartition setting.machine.stated → IsBacked setting before →
         BroughtBack setting before asleep (with_hardware asleep resumed) t
     back partition backed = record {
       is_up = comes_up (machine_of setting) patches woken t their is_theirs;
       came_to = came_to;
+      stayed = stayed;
       no_lower =
           λ none. subst (λ (rev : ℕ). before.hardware.rev g ≤ rev) (sym (came_to none))
           (backed g (group_below setting partition t below));

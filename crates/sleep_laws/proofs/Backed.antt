@@ -26,7 +26,7 @@ use Rattle.session_steps.specs.Did.{Did, only, by_row, by_bring_ups}
 use Rattle.session_steps.specs.Step.{BootRow, Boots, LoadRow, Meets, booted, booted_patches, brought_at_boot, online_from, set_refusal, SessionStep}
 use Rattle.session_laws.specs.Standing.{Standing, InRange, OpeningStands, StepsStand}
 use Rattle.session_laws.specs.Lent.{LoadsLend}
-use Rattle.session_runs.specs.SoFar.{StepsTo}
+use Rattle.cut_laws.specs.SoFar.{StepsTo}
 use Rattle.sleep_laws.specs.PowerUp.{at_power_up, IsBacked, StatesAreBacked}
 use Rattle.sleep_laws.proofs.Coming.{come_to, at_least, of_revision, within}
 use Rattle.sleep_laws.proofs.Loaded.{load_leaves}

@@ -28,10 +28,10 @@ use Rattle.session_steps.specs.Session.{is_done}
 use Rattle.session_laws.specs.Standing.{Standing, InRange, OpeningStands, StepsStand}
 use Rattle.session_laws.specs.Lent.{LoadsLend}
 use Rattle.session_laws.proofs.Parts.{warm_takes_part}
-use Rattle.session_runs.specs.SoFar.{StepsTo}
+use Rattle.cut_laws.specs.SoFar.{StepsTo}
 use Rattle.sleep_laws.specs.PowerUp.{at_power_up}
 use Rattle.sleep_laws.specs.Cold.{NoneUp, IsCold, Warms, NoneWarms, ColdGroupsCatchUp}
-use Rattle.sleep_laws.proofs.Coming.{come_to, AreOthers, are_others, cold_where, cold_by, cold_far, comes, others_leave, power_stays}
+use Rattle.sleep_laws.proofs.Coming.{come_to, AreOthers, are_others, cold_where, cold_by, cold_far, comes, refusing_stays, others_leave, power_stays}
 use Rattle.sleep_laws.proofs.Loaded.{IsAsBefore, SameButRevisions, load_leaves, machine_stays, no_offer}
 use Rattle.sleep_laws.proofs.Asleep.{up_is, asleep, woken, their, patches, resumed, resumed_is, slept, resume_of}
 
@@ -312,6 +312,19 @@ module _ (setting : Setting) (before : State) (g : ℕ) (in_groups : g < (machin
       ∙ comes_to
       ∙ ap (come_to ((machine_of setting).bios g)) lies.group.caches
 
+  warmed_stays : (now : State) → Lies now → (t : ℕ) (did : Did) (off up : Bool) →
+      did ≡ by_bring_ups now (online_from setting now t
+      (calls.refuse_where off hot.PoweredDown (calls.unless ((up, hot.IsUp t) ∷ []) now.hardware))) →
+      did.answer ≡ Done → now.hardware.refuses g ≡ true → did.after.hardware.rev g ≡ (machine_of setting).bios g
+  warmed_stays now lies t did true up is done refusing =
+      absurd (false≢true (ap is_done (sym (ap (λ (d : Did). d.answer) is) ∙ done)))
+  warmed_stays now lies t did false true is done refusing =
+      absurd (false≢true (ap is_done (sym (ap (λ (d : Did). d.answer) is) ∙ done)))
+  warmed_stays now lies t did false false is done refusing =
+      ap (λ (d : Did). d.after.hardware.rev g) is
+      ∙ refusing_stays (machine_of setting) (cached_patches now) now.hardware g (t ∷ []) refusing
+      ∙ lies.group.rev
+
   -- ---- after a resume
 
   lies_resumed : (refuses : ℕ → Bool) → NoneUp setting before g →
@@ -349,6 +362,12 @@ cold_groups_catch_up law opens lends opening stay lists setting before was_aslee
     lies_to setting before g in_groups law opens lends stay partition lists did.after later later_dids now stands
     at_first in_range steps none_warms in (
       lies.group,
-      λ t warmed step warms willing. warmed_by setting before g in_groups now lies t warmed
-          (not (is_on now.hardware.power)) (is_up (now.hardware.thread t)) step warms.1 warms.0 willing,
+      λ t warmed step warms. record {
+        came_to =
+            λ willing. warmed_by setting before g in_groups now lies t warmed (not (is_on now.hardware.power))
+            (is_up (now.hardware.thread t)) step warms.1 warms.0 willing;
+        stayed =
+            λ refusing. warmed_stays setting before g in_groups now lies t warmed (not (is_on now.hardware.power))
+            (is_up (now.hardware.thread t)) step warms.1 refusing;
+      },
     )

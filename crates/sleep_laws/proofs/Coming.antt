@@ -183,6 +183,11 @@ brought_own : (old : Hardware) (t g : ℕ) (new : Option ℕ) →
 brought_own old t g None = refl
 brought_own old t g (Some new) = put_here old.rev g new
 
+-- where it refuses
+brought_refused : (old : Hardware) (t g : ℕ) (new : Option ℕ) → (brought old t g new true).after ≡ old
+brought_refused old t g None = refl
+brought_refused old t g (Some new) = refl
+
 brought_within : (old : Hardware) (t g most : ℕ) (new : Option ℕ) (refuses : Bool) → old.rev g ≤ most →
     ((rev : ℕ) → new ≡ Some rev → rev ≤ most) → (brought old t g new refuses).after.rev g ≤ most
 brought_within old t g most None refuses low each = low
@@ -284,6 +289,29 @@ module _ (setting : Setting) (patches : CachedPatches) where
   stay old g (t ∷ ts) none =
       let one : (after old t).rev g ≡ old.rev g = one_stays old t g none in
       stay (after old t) g ts (ap (λ (rev : ℕ). above rev (patches g)) one ∙ none) ∙ one
+
+  -- a group that refuses stays at its revision
+  own_refuses : (old : Hardware) (t : ℕ) → old.refuses (setting.group t) ≡ true →
+      (after old t).rev (setting.group t) ≡ old.rev (setting.group t)
+  own_refuses old t refusing =
+      let g : ℕ = setting.group t in
+      ap (λ (refuses : Bool).
+      (brought (with_thread old t Up) t g (to_write setting patches old g) refuses).after.rev g) refusing
+      ∙ ap (λ (h : Hardware). h.rev g) (brought_refused (with_thread old t Up) t g (to_write setting patches old g))
+
+  one_refuses : (old : Hardware) (t g : ℕ) → old.refuses g ≡ true → (after old t).rev g ≡ old.rev g
+  one_refuses old t g refusing = elim (cases_eq g (setting.group t)) [
+    | inl own ↦
+        subst (λ (h : ℕ). old.refuses h ≡ true → (after old t).rev h ≡ old.rev h) (sym own) (own_refuses old t) refusing
+    | inr far ↦ far_after old t g (λ same. far (sym same))
+  ]
+
+  pub refusing_stays : (old : Hardware) (g : ℕ) (ts : List ℕ) → old.refuses g ≡ true →
+      (after_each old ts).rev g ≡ old.rev g
+  refusing_stays old g [] refusing = refl
+  refusing_stays old g (t ∷ ts) refusing =
+      refusing_stays (after old t) g ts (ap (λ (refuses : ℕ → Bool). refuses g) (refuses_after old t) ∙ refusing)
+      ∙ one_refuses old t g refusing
 
   one_within : (first : ℕ) (old : Hardware) (t g : ℕ) → old.rev g ≤ come_to first (patches g) →
       (after old t).rev g ≤ come_to first (patches g)

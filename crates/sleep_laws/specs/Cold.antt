@@ -11,7 +11,7 @@ use Rattle.session_steps.specs.State.{Setting, State, machine_of, cached_patches
 use Rattle.session_steps.specs.Did.{Did}
 use Rattle.session_steps.specs.Step.{SessionStep}
 use Rattle.session_laws.specs.Standing.{InRange}
-use Rattle.session_runs.specs.SoFar.{StepsTo}
+use Rattle.cut_laws.specs.SoFar.{StepsTo}
 use Rattle.sleep_laws.specs.PowerUp.{at_power_up}
 use Rattle.sleep_laws.specs.Sleep.{Resumes}
 
@@ -34,9 +34,14 @@ abbrev pub NoneWarms : Setting → ℕ → List Command → List Did → Type 0
 NoneWarms setting g (one ∷ commands) (did ∷ dids) = (Warms setting g one did → ⊥) × NoneWarms setting g commands dids
 NoneWarms setting g commands dids = Unit {0}
 
+-- what the `online` that ends it makes of the group: its revision at a power-up, with the patch that it cached before
+-- the suspend; or the firmware's still, where it refuses the write at that moment
+pub record Warmed (setting : Setting) (before now after : State) (g : ℕ) : Type 0 where
+  pub came_to : now.hardware.refuses g ≡ false → after.hardware.rev g ≡ at_power_up setting before g
+  pub stayed : now.hardware.refuses g ≡ true → after.hardware.rev g ≡ (machine_of setting).bios g
+
 -- Whatever commands follow a resume, further suspends among them, such a group stays cold until an `online` of one of
--- its threads is done. That brings it to its revision at a power-up, with the patch that it cached before the suspend,
--- where it does not refuse at that moment.
+-- its threads is done, which warms it.
 abbrev pub ColdGroupsCatchUp : Type 0
 ColdGroupsCatchUp =
     (lists : Bool) (setting : Setting) (before asleep : State) (did : Did) (g : ℕ) (later : List Command)
@@ -51,5 +56,4 @@ ColdGroupsCatchUp =
     IsCold setting before now g
     × ((t : ℕ) (warmed : Did) →
     SessionStep lists setting now (command.Online t) warmed →
-    Warms setting g (command.Online t) warmed →
-    now.hardware.refuses g ≡ false → warmed.after.hardware.rev g ≡ at_power_up setting before g)
+    Warms setting g (command.Online t) warmed → Warmed setting before now warmed.after g)

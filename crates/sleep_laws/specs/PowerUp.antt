@@ -7,7 +7,7 @@ use Rattle.script_text.specs.declared.command.Command.{Command}
 use Rattle.session_steps.specs.State.{Setting, State, machine_of, cached_patches, opening_state}
 use Rattle.session_steps.specs.Did.{Did}
 use Rattle.session_laws.specs.Standing.{InRange}
-use Rattle.session_runs.specs.SoFar.{StepsTo}
+use Rattle.cut_laws.specs.SoFar.{StepsTo}
 
 -- The revision of a group once its first thread came up after a power-up: that of the patch that it caches, where that
 -- is above the firmware's, and else the firmware's.

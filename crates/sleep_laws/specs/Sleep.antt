@@ -1,5 +1,5 @@
 -- A machine that is suspended and, some commands later, resumed.
-use Rattle.std.specs.Prelude.{◌≡◌, ◌≢◌, ℕ, ◌≤◌, Bool, false, ◌&&◌, List, is_some}
+use Rattle.std.specs.Prelude.{◌≡◌, ◌≢◌, ℕ, ◌≤◌, Bool, true, false, ◌&&◌, List, is_some}
 use Rattle.std.specs.List.{All}
 use Rattle.uc_topology.specs.Stated.{IsPartition}
 use Rattle.machine_steps.specs.declared.states.ThreadState.TheVariants.{Up}
@@ -12,7 +12,7 @@ use Rattle.session_steps.specs.State.{Setting, State, machine_of, cached_patches
 use Rattle.session_steps.specs.Did.{Did}
 use Rattle.session_steps.specs.Step.{SessionStep}
 use Rattle.session_laws.specs.Standing.{Standing, InRange}
-use Rattle.session_runs.specs.SoFar.{StepsTo}
+use Rattle.cut_laws.specs.SoFar.{StepsTo}
 use Rattle.sleep_laws.specs.PowerUp.{at_power_up}
 
 -- ---- while it sleeps
@@ -71,7 +71,11 @@ pub record BroughtBack (setting : Setting) (before asleep after : State) (t : �
   pub came_to :
       refuses_patch setting asleep ((machine_of setting).group t) ≡ false →
       after.hardware.rev ((machine_of setting).group t) ≡ at_power_up setting before ((machine_of setting).group t)
-  -- and so it has at least the revision that it had
+  -- one that refuses the write stays at the firmware's revision
+  pub stayed :
+      refuses_patch setting asleep ((machine_of setting).group t) ≡ true →
+      after.hardware.rev ((machine_of setting).group t) ≡ (machine_of setting).bios ((machine_of setting).group t)
+  -- where it refuses none it has at least the revision that it had
   pub no_lower :
       refuses_patch setting asleep ((machine_of setting).group t) ≡ false →
       before.hardware.rev ((machine_of setting).group t) ≤ after.hardware.rev ((machine_of setting).group t)

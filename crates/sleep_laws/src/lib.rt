@@ -1,7 +1,7 @@
 //! Laws of suspend and resume over whole sessions. Each law is the contract of a function that does nothing.
 //!
-//! `specs/` states them: `PowerUp` says what a group comes to when power is switched on, and that no group ever runs more;
-//! `Sleep` what a resume brings back of what was up before the suspend; `Cold` what becomes of the other groups.
+//! `specs/` states them: `PowerUp` says what a group comes to when power is switched on, and that no group ever runs
+//! more; `Sleep` what a resume brings back of what was up before the suspend; `Cold` what becomes of the other groups.
 #![tactic(auto)]
 
 ghost use Rattle.sleep_laws.specs.Cold.{ColdGroupsCatchUp};
@@ -21,9 +21,10 @@ pub fn each_revision_is_backed()
     each_state_stands();
 }
 
-/// Over a session: a resume brings up every thread that was up before the suspend, and each group of such a thread has at
-/// least the revision that it had, where it refuses no write then. A group none of whose threads was up stays cold, and
-/// gets its cached patch with the first of its threads that is brought online, where it does not refuse.
+/// Over a session: a resume brings up every thread that was up before the suspend, and each group of such a thread has
+/// at least the revision that it had, where it refuses no write then. A group none of whose threads was up stays cold,
+/// and gets its cached patch with the first of its threads that is brought online. A group that refuses the write of
+/// its patch stays at the firmware's revision.
 pub fn a_resume_brings_back()
     ensures suspend { SuspendsSleep }
     ensures asleep { SleepGoesOn }

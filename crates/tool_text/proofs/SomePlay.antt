@@ -30,9 +30,9 @@ use Rattle.script_text.specs.Texts.{States}
 use Rattle.script_text.specs.Within.{fits_command, fits_beat, events_of, IsWithin}
 use Rattle.script_text.proofs.OneReading.{one_each}
 use Rattle.script_text.proofs.Kept.{within}
-use Rattle.script_report.specs.declared.TheConstants.{SCRIPT_LIMIT}
-use Rattle.script_report.specs.Accepts.{IsScript, RefusesScript}
-use Rattle.script_report.specs.Lines.{script_line}
+use Rattle.script_text.specs.declared.TheConstants.{SCRIPT_LIMIT}
+use Rattle.script_text.specs.Accepts.{IsScript, RefusesScript}
+use Rattle.script_text.specs.Lines.{script_line}
 use Rattle.session_text.specs.declared.answers.SessionAnswer.{SessionAnswer}
 use Rattle.session_text.specs.declared.answers.SessionAnswer.TheVariants as session
 use Rattle.session_steps.specs.State.{opening_state}

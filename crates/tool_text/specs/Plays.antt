@@ -12,8 +12,8 @@ use Rattle.top_call.specs.declared.status.Status.TheVariants.{BadInput, ReadFaul
 use Rattle.file_reads.specs.Accepts.{IsMachine}
 use Rattle.file_reads.specs.Reads.{Read, AreHeld}
 use Rattle.report_text.specs.Lines.{joined, unread_line}
-use Rattle.script_report.specs.Accepts.{IsScript, RefusesScript}
-use Rattle.script_report.specs.Lines.{script_line}
+use Rattle.script_text.specs.Accepts.{IsScript, RefusesScript}
+use Rattle.script_text.specs.Lines.{script_line}
 use Rattle.script_text.specs.declared.fault.ScriptCause.{ScriptCause}
 use Rattle.script_text.specs.declared.forms.Limits.{Limits}
 use Rattle.script_text.specs.Stated.{Stated}

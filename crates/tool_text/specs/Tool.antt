@@ -9,7 +9,7 @@ use Rattle.file_entries.specs.Reading.{Reading}
 use Rattle.file_reads.specs.Accepts.{AreAccepted, IsMachine}
 use Rattle.file_reads.specs.Reads.{Read, AreHeld}
 use Rattle.report_text.specs.Lines.{usage_line}
-use Rattle.script_report.specs.Accepts.{IsScript}
+use Rattle.script_text.specs.Accepts.{IsScript}
 use Rattle.script_text.specs.Stated.{Stated}
 use Rattle.script_text.specs.Texts.{States}
 use Rattle.tool_text.specs.Words.{Asked, Faulty, ListOf, ShowOf, SelectOf, PlayOf, GenOf, asked}

@@ -7,7 +7,7 @@ use Rattle.file_reads.specs.Accepts.{IsMachine, RefusesTopology}
 use Rattle.file_reads.specs.Reads.{NotRead, Refused, ReadsOf}
 use Rattle.script_text.specs.declared.forms.Limits.{Limits}
 use Rattle.script_text.specs.Stated.{Stated}
-use Rattle.script_report.specs.Accepts.{IsScript, RefusesScript}
+use Rattle.script_text.specs.Accepts.{IsScript, RefusesScript}
 use Rattle.update_reads.specs.Reading.{IsOfFiles}
 use Rattle.uc_cli.specs.declared.refusal.Refusal.{Refusal}
 use Rattle.uc_cli.specs.declared.refusal.Refusal.TheVariants.{Unread, BadFile, BadTopology, BadScript, NoMemory}

@@ -4,7 +4,7 @@ use Rattle.top_call.specs.declared.status.Status.{Status}
 use Rattle.top_call.specs.declared.status.Status.TheVariants as statuses
 use Rattle.top_call.specs.Written.{memory_line}
 use Rattle.report_text.specs.Lines.{unread_line, fault_line, topology_line, no_entry_line}
-use Rattle.script_report.specs.Lines.{script_line}
+use Rattle.script_text.specs.Lines.{script_line}
 use Rattle.uc_cli.specs.declared.refusal.Refusal.{Refusal}
 use Rattle.uc_cli.specs.declared.refusal.Refusal.TheVariants.{Unread, BadFile, BadTopology, BadScript, NoEntry, NoMemory}
 

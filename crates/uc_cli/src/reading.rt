@@ -6,7 +6,7 @@ ghost use Rattle.tool_text.specs.Plays.{limits_of};
 
 use crate::refusal::Refusal;
 use file_reads::TOPOLOGY_LIMIT;
-use script_report::SCRIPT_LIMIT;
+use script_text::SCRIPT_LIMIT;
 use script_text::{Script, ScriptCause, ScriptFault};
 use std::alloc::Global;
 use uc_bytes::Text;

@@ -4,7 +4,7 @@ ghost use Rattle.top_call.specs.Causes.{WriteCause};
 ghost use Rattle.top_call.specs.Written.{Ends, memory_line};
 ghost use Rattle.uc_cli.specs.Refusal.{line_of, status_of};
 
-use script_report::put_script_fault;
+use uc_script::put_script_fault;
 use script_text::ScriptFault;
 use top_call::{Status, after_write};
 use uc_bytes::{FileFault, Text};

@@ -1,5 +1,5 @@
--- The generated AMD file: 16 containers, for each of which five numbers are drawn. Each has a table of one row, and four
--- patches of 64 bytes.
+-- The generated AMD file: 16 containers, for each of which five numbers are drawn. Each has a table of one row, and
+-- four patches of 64 bytes.
 use Rattle.std.specs.Prelude.{ℕ, ◌+◌, ◌*◌, ◌/◌, ◌%◌, List, [], ◌∷◌, ◌++◌, flat_map}
 use Rattle.std.specs.List.{range_with_len}
 use Rattle.uc_gen.specs.Bundle.{bytes_of}
@@ -21,7 +21,8 @@ sig_for a = 0x00a00f00 + a / 256 * 65536 + a % 256
 -- the first sections for an id, whose revisions are drawn behind some draws
 unfoldable pub sections : ℕ → ℕ → ℕ → ℕ → List ℕ
 sections number before id count =
-    flat_map (λ patch. section_words (0x0a000000 + draw number (before + patch + 1) % 65536) id) (range_with_len 0 count)
+    flat_map (λ patch. section_words (0x0a000000 + draw number (before + patch + 1) % 65536) id)
+    (range_with_len 0 count)
 
 -- the container that is made behind some draws: a number of 12 bits is drawn, and then the revisions of four patches
 abbrev pub container_words : ℕ → ℕ → List ℕ

@@ -24,8 +24,8 @@ last_of sink = sink.last.items
 abbrev pub rest_of : TallySink → List ℕ
 rest_of sink = sink.rest.items
 
--- It stands for each text with that many LF bytes that ends in these, cut in the same way. Where the number is the greatest
--- of 64 bits, the text has at least as many.
+-- It stands for each text with that many LF bytes that ends in these, cut in the same way. Where the number is the
+-- greatest of 64 bits, the text has at least as many.
 pub record Tallies (sink : TallySink) (text : List ℕ) : Type 0 where
   pub lines : lines_of sink ≡ min (count_by is_line_feed text) (2 ^ 64 - 1)
   pub last : last_of sink ≡ take 128 (last_line text)

@@ -1,5 +1,6 @@
 -- The generated topology, of 128 cores with two threads each, and the script for it.
-use Rattle.std.specs.Prelude.{ℕ, ◌+◌, ◌*◌, ◌/◌, ◌%◌, ◌^◌, ◌==◌, if◌then◌else◌, List, [], ◌∷◌, ◌++◌, flat_map, codes, decimal}
+use Rattle.std.specs.Prelude.{ℕ, ◌+◌, ◌*◌, ◌/◌, ◌%◌, ◌^◌, ◌==◌, if◌then◌else◌, List, [], ◌∷◌, ◌++◌, flat_map, codes}
+use Rattle.std.specs.Prelude.{decimal}
 use Rattle.std.specs.List.{range_with_len}
 use Rattle.uc_text.specs.Digits.{hex8_of}
 use Rattle.uc_gen.specs.Draws.{draw}
@@ -19,7 +20,8 @@ core_flags number core = 2 ^ (draw number (2 * core + 2) % 8)
 
 abbrev pub core_words : ℕ → ℕ → ℕ → List (List ℕ)
 core_words core sig flags =
-    codes "core" ∷ decimal core ∷ codes "sig" ∷ hex8_of sig ∷ codes "flags" ∷ hex8_of flags ∷ codes "rev" ∷ hex8_of 0x80 ∷ []
+    codes "core" ∷ decimal core ∷ codes "sig" ∷ hex8_of sig ∷ codes "flags" ∷ hex8_of flags ∷ codes "rev" ∷ hex8_of 0x80
+    ∷ []
 
 abbrev pub core_line : ℕ → ℕ → ℕ → List ℕ
 core_line core sig flags = line_of (core_words core sig flags)

@@ -39,8 +39,10 @@ fn completing(front: &[u32], back: &[u32]) -> u32
 
 /// The words of data that are drawn next.
 fn draw_data(draws: &mut Draws) -> ArrayVec<u32, 500>
-    ensures words { (number before : ℕ) → draws.old.state ≡ state_after number before → result.items ≡ draws_behind number before 500 }
-    ensures state { (number before : ℕ) → draws.old.state ≡ state_after number before → draws.new.state ≡ state_after number (before + 500) }
+    ensures words { (number before : ℕ) → draws.old.state ≡ state_after number before →
+        result.items ≡ draws_behind number before 500 }
+    ensures state { (number before : ℕ) → draws.old.state ≡ state_after number before →
+        draws.new.state ≡ state_after number (before + 500) }
 {
     let mut words = ArrayVec::new();
     'words: for _ in 0..500u32 {
@@ -51,8 +53,10 @@ fn draw_data(draws: &mut Draws) -> ArrayVec<u32, 500>
 
 /// Puts the update that is drawn next behind the bytes. Its checksum makes the sum of its words 0.
 fn push_update(bytes: &mut Vec<u8>, draws: &mut Draws) -> Result<(), NoMemory>
-    ensures bytes { (number before : ℕ) → draws.old.state ≡ state_after number before → OnOk result (bytes.new.items ≡ bytes.old.items ++ bytes_of (update_words number before)) }
-    ensures state { (number before : ℕ) → draws.old.state ≡ state_after number before → OnOk result (draws.new.state ≡ state_after number (before + 503)) }
+    ensures bytes { (number before : ℕ) → draws.old.state ≡ state_after number before →
+        OnOk result (bytes.new.items ≡ bytes.old.items ++ bytes_of (update_words number before)) }
+    ensures state { (number before : ℕ) → draws.old.state ≡ state_after number before →
+        OnOk result (draws.new.state ≡ state_after number (before + 503)) }
 {
     let sig = 0x906e0 + draws.draw() % 16;
     let flags = draws.draw() % 256;

@@ -36,8 +36,10 @@ fn push_section(bytes: &mut Vec<u8>, rev: u32, id: u32) -> Result<(), NoMemory>
 
 /// The sections of four patches for an id, whose revisions are drawn next.
 fn push_sections(bytes: &mut Vec<u8>, draws: &mut Draws, id: u32) -> Result<(), NoMemory>
-    ensures bytes { (number before : ℕ) → draws.old.state ≡ state_after number before → OnOk result (bytes.new.items ≡ bytes.old.items ++ bytes_of (sections number before id 4)) }
-    ensures state { (number before : ℕ) → draws.old.state ≡ state_after number before → OnOk result (draws.new.state ≡ state_after number (before + 4)) }
+    ensures bytes { (number before : ℕ) → draws.old.state ≡ state_after number before →
+        OnOk result (bytes.new.items ≡ bytes.old.items ++ bytes_of (sections number before id 4)) }
+    ensures state { (number before : ℕ) → draws.old.state ≡ state_after number before →
+        OnOk result (draws.new.state ≡ state_after number (before + 4)) }
 {
     'patches: for _ in 0..4u32 {
         push_section(bytes, 0x0a00_0000 + draws.draw() % 65_536, id)?;
@@ -47,8 +49,10 @@ fn push_sections(bytes: &mut Vec<u8>, draws: &mut Draws, id: u32) -> Result<(), 
 
 /// Puts the container that is drawn next behind the bytes.
 fn push_container(bytes: &mut Vec<u8>, draws: &mut Draws) -> Result<(), NoMemory>
-    ensures bytes { (number before : ℕ) → draws.old.state ≡ state_after number before → OnOk result (bytes.new.items ≡ bytes.old.items ++ bytes_of (container_words number before)) }
-    ensures state { (number before : ℕ) → draws.old.state ≡ state_after number before → OnOk result (draws.new.state ≡ state_after number (before + 5)) }
+    ensures bytes { (number before : ℕ) → draws.old.state ≡ state_after number before →
+        OnOk result (bytes.new.items ≡ bytes.old.items ++ bytes_of (container_words number before)) }
+    ensures state { (number before : ℕ) → draws.old.state ≡ state_after number before →
+        OnOk result (draws.new.state ≡ state_after number (before + 5)) }
 {
     let a = draws.draw() % 4096;
     push_equiv(bytes, sig_for(a), 0xa000 + a)?;

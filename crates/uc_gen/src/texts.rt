@@ -1,6 +1,7 @@
 //! The topology and the script.
 ghost use Rattle.std.specs.Prelude.{◌≡◌, ◌<◌, ◌%◌, ◌^◌, ◌++◌, IfOk, OnOk};
-ghost use Rattle.uc_gen.specs.Texts.{core_line, thread_line, offline_line, core_lines, thread_lines, offline_lines, topology_text, script_text};
+ghost use Rattle.uc_gen.specs.Texts.{core_line, thread_line, offline_line, core_lines, thread_lines, offline_lines};
+ghost use Rattle.uc_gen.specs.Texts.{topology_text, script_text};
 
 use crate::draws::Draws;
 use crate::pushing::push_pieces;

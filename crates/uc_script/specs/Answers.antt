@@ -1,5 +1,6 @@
 -- What the parts of the reader answer. No clause says when memory runs out.
-use Rattle.std.specs.Prelude.{◌≡◌, ◌⊎◌, ℕ, ◌<◌, ◌≤◌, ◌^◌, Bool, true, false, List, [], length, slice_index_or, Option, Some, None, Result, Ok, Err}
+use Rattle.std.specs.Prelude.{◌≡◌, ◌⊎◌, ℕ, ◌<◌, ◌≤◌, ◌^◌, Bool, true, false, List, [], length, slice_index_or, Option}
+use Rattle.std.specs.Prelude.{Some, None, Result, Ok, Err}
 use Rattle.uc_script.specs.declared.answer.LineAnswer.{LineAnswer}
 use Rattle.uc_script.specs.declared.answer.LineAnswer.TheVariants as line
 use Rattle.uc_script.specs.declared.answer.ScriptAnswer.{ScriptAnswer}
@@ -43,12 +44,15 @@ IsBelow (Some number) limit (Err cause) = (limit ≤ number) × (cause ≡ Range
 -- a line of this form and these words adds to what stands before it, or the first check that fails at it
 abbrev pub IsAdded : Limits → Before → ℕ → Form → List (List ℕ) → Before → Result (Unit {0}) LineAnswer → Type 0
 IsAdded limits before number form words next (Ok _) = after_form limits before number (Some form) words ≡ Ok next
-IsAdded limits before number form words next (Err (line.Cause cause)) = after_form limits before number (Some form) words ≡ Err cause
+IsAdded limits before number form words next (Err (line.Cause cause)) =
+    after_form limits before number (Some form) words ≡ Err cause
 IsAdded limits before number form words next (Err line.NoMemory) = Unit {0}
 
 -- reading goes on as it would have from there, with fewer lines, or ends at its first fault
-abbrev pub GoesOn : Limits → Before → List (ℕ × List ℕ) → Before → List (ℕ × List ℕ) → Result (Unit {0}) ScriptAnswer → Type 0
-GoesOn limits before lines next rest (Ok _) = (read_on limits before lines ≡ read_on limits next rest) × (length rest < length lines)
+abbrev pub GoesOn : Limits → Before → List (ℕ × List ℕ) → Before → List (ℕ × List ℕ) → Result (Unit {0}) ScriptAnswer →
+    Type 0
+GoesOn limits before lines next rest (Ok _) =
+    (read_on limits before lines ≡ read_on limits next rest) × (length rest < length lines)
 GoesOn limits before lines next rest (Err (Fault fault)) = read_on limits before lines ≡ Err fault
 GoesOn limits before lines next rest (Err NoMemory) = Unit {0}
 
@@ -83,13 +87,15 @@ IsNoNumber (Some number) InRange cause = (InRange number → ⊥) × (cause ≡ 
 
 -- a number of blocks is set
 abbrev pub SetsPool : Before → Option ℕ → Before → Result (Unit {0}) LineAnswer → Type 0
-SetsPool before spelled next (Ok _) = (n : ℕ) × (spelled ≡ Some n) × (1 ≤ n) × (n ≤ 65536) × (next ≡ record before { place = AfterPool; pool = n })
+SetsPool before spelled next (Ok _) =
+    (n : ℕ) × (spelled ≡ Some n) × (1 ≤ n) × (n ≤ 65536) × (next ≡ record before { place = AfterPool; pool = n })
 SetsPool before spelled next (Err (line.Cause cause)) = IsNoNumber spelled (λ n. (1 ≤ n) × (n ≤ 65536)) cause
 SetsPool before spelled next (Err line.NoMemory) = Unit {0}
 
 -- a number of polls is set
 abbrev pub SetsPatience : Before → Option ℕ → Before → Result (Unit {0}) LineAnswer → Type 0
-SetsPatience before spelled next (Ok _) = (n : ℕ) × (spelled ≡ Some n) × (n < 2 ^ 32) × (next ≡ record before { place = Commands; patience = n })
+SetsPatience before spelled next (Ok _) =
+    (n : ℕ) × (spelled ≡ Some n) × (n < 2 ^ 32) × (next ≡ record before { place = Commands; patience = n })
 SetsPatience before spelled next (Err (line.Cause cause)) = IsNoNumber spelled (λ n. n < 2 ^ 32) cause
 SetsPatience before spelled next (Err line.NoMemory) = Unit {0}
 
@@ -102,10 +108,12 @@ AddsCommand before command next (Err line.NoMemory) = Unit {0}
 -- ---- loads
 
 -- the lines of a load that begins go on, or it is a command too many
-abbrev pub AddsLoad : Limits → Before → OpenLoad → List (ℕ × List ℕ) → Before → List (ℕ × List ℕ) → Result (Unit {0}) ScriptAnswer → Type 0
+abbrev pub AddsLoad : Limits → Before → OpenLoad → List (ℕ × List ℕ) → Before → List (ℕ × List ℕ) →
+    Result (Unit {0}) ScriptAnswer → Type 0
 AddsLoad limits before load lines next rest result =
     ((4096 ≤ length before.commands) × (result ≡ Err (Fault (record { line = load.line; cause = TooMany }))))
-    ⊎ ((length before.commands < 4096) × GoesOn limits (record before { place = InLoad; load = load }) lines next rest result)
+    ⊎ ((length before.commands < 4096)
+    × GoesOn limits (record before { place = InLoad; load = load }) lines next rest result)
 
 abbrev pub EndsLoad : Before → OpenLoad → Before → Result (Unit {0}) ScriptAnswer → Type 0
 EndsLoad before load next (Ok _) = next ≡ with_end (record before { load = load })

@@ -8,7 +8,9 @@ use Rattle.script_text.specs.Stands.{Before}
 use Rattle.script_text.specs.Reading.{read_on}
 
 -- a load that has the old beats before these lines is read as one that has the new beats before those that are left
-pub record ReadsOn (limits : Limits) (lines : List (ℕ × List ℕ)) (old : List Beat) (left : List (ℕ × List ℕ)) (new : List Beat) : Type 0 where
+pub record ReadsOn (limits : Limits) (lines : List (ℕ × List ℕ)) (old : List Beat) (left : List (ℕ × List ℕ))
+    (new : List Beat) : Type 0 where
   pub same : (before : Before) (load : OpenLoad)
-      → read_on limits (record before { place = InLoad; load = record load { beats = new } }) left ≡ read_on limits (record before { place = InLoad; load = record load { beats = old } }) lines
+      → read_on limits (record before { place = InLoad; load = record load { beats = new } }) left
+      ≡ read_on limits (record before { place = InLoad; load = record load { beats = old } }) lines
   pub fewer : length left ≤ length lines

@@ -1,5 +1,7 @@
 -- The schedules of loads, read word by word.
-use Rattle.std.specs.Prelude.{◌≡◌, ℕ, ◌<◌, ◌≤◌, ◌-◌, ◌^◌, Bool, true, false, not, List, [], ◌∷◌, ◌++◌, drop, length, map, min, nat_lt, slice_index, Option, Some, None, is_some, unwrap_or, Result, Ok, Err, if◌then◌else◌, IfOk}
+use Rattle.std.specs.Prelude.{◌≡◌, ℕ, ◌<◌, ◌≤◌, ◌-◌, ◌^◌, Bool, true, false, not, List, [], ◌∷◌, ◌++◌, drop, length}
+use Rattle.std.specs.Prelude.{map, min, nat_lt, slice_index, Option, Some, None, is_some, unwrap_or, Result, Ok, Err}
+use Rattle.std.specs.Prelude.{if◌then◌else◌, IfOk}
 use Rattle.std.specs.Borrow.{Bor}
 use Rattle.std.specs.List.{list_all}
 use Rattle.rendezvous_steps.specs.declared.ends.Beat.{Beat}
@@ -26,12 +28,14 @@ Counted limits beats events = events ≡ min (events_of limits beats) (2 ^ 64 - 
 -- the beat of a word's first byte and of the number that the rest spells, where it does; or the first check that fails
 abbrev pub IsBeatOf : Limits → ℕ → Option ℕ → Result Beat ScriptCause → Type 0
 IsBeatOf limits first number (Ok beat) =
-    (is_some (kind_of first) ≡ true) × (is_some number ≡ true) × (fits_beat limits (beat_with_some (kind_of first) (unwrap_or number 0)) ≡ true)
+    (is_some (kind_of first) ≡ true) × (is_some number ≡ true)
+    × (fits_beat limits (beat_with_some (kind_of first) (unwrap_or number 0)) ≡ true)
     × (beat ≡ beat_with_some (kind_of first) (unwrap_or number 0))
 IsBeatOf limits first number (Err Word) = is_some (kind_of first) ≡ false
 IsBeatOf limits first number (Err Number) = (is_some (kind_of first) ≡ true) × (is_some number ≡ false)
 IsBeatOf limits first number (Err Range) =
-    (is_some (kind_of first) ≡ true) × (is_some number ≡ true) × (fits_beat limits (beat_with_some (kind_of first) (unwrap_or number 0)) ≡ false)
+    (is_some (kind_of first) ≡ true) × (is_some number ≡ true)
+    × (fits_beat limits (beat_with_some (kind_of first) (unwrap_or number 0)) ≡ false)
 IsBeatOf limits first number (Err cause) = ⊥
 
 -- the beat of a word, or the first check that fails at the word alone
@@ -53,7 +57,8 @@ schedule_fault limits beats words =
     else None
 
 -- the line adds its beats, or fails at that check
-abbrev pub IsScheduled : {A : Type 0} → Limits → List (List ℕ) → List Beat → List Beat → ℕ → Result A LineAnswer → Type 0
+abbrev pub IsScheduled : {A : Type 0} → Limits → List (List ℕ) → List Beat → List Beat → ℕ → Result A LineAnswer →
+    Type 0
 IsScheduled limits words old new events (Ok _) =
     (schedule_fault limits old words ≡ None) × (new ≡ old ++ beats_of words) × Counted limits new events
 IsScheduled limits words old new events (Err (Cause cause)) = schedule_fault limits old words ≡ Some cause
@@ -63,7 +68,8 @@ IsScheduled limits words old new events (Err NoMemory) = Unit {0}
 -- left state after those, and what fails at them
 abbrev pub LeavesSchedule : Limits → List (List ℕ) → List Beat → List (List ℕ) → List Beat → Type 0
 LeavesSchedule limits words old left beats =
-    (schedule_fault limits old words ≡ schedule_fault limits beats left) × (old ++ beats_of words ≡ beats ++ beats_of left)
+    (schedule_fault limits old words ≡ schedule_fault limits beats left)
+    × (old ++ beats_of words ≡ beats ++ beats_of left)
 
 -- the first word of a text states this beat, and this is left of its line
 pub record IsFirstBeat (limits : Limits) (text : List ℕ) (beat : Beat) (rest : List ℕ) (is_last : Bool) : Type 0 where
@@ -76,10 +82,13 @@ pub record IsFirstBeat (limits : Limits) (text : List ℕ) (beat : Beat) (rest :
 
 -- the same, and the beat is one event
 abbrev pub IsFirstEvent : Limits → List ℕ → Beat → List ℕ → Bool → Type 0
-IsFirstEvent limits text event rest is_last = IsFirstBeat limits text event rest is_last × (events_of_beat limits event ≡ 1)
+IsFirstEvent limits text event rest is_last =
+    IsFirstBeat limits text event rest is_last × (events_of_beat limits event ≡ 1)
 
--- the words at the front of a text's first line are put, and the others are left; all that lines have after it is left too
-pub record AddsBeats (limits : Limits) (text : List ℕ) (old : List Beat) (rest : List ℕ) (new : List Beat) : Type 0 where
+-- the words at the front of a text's first line are put, and the others are left; all that lines have after it is left
+-- too
+pub record AddsBeats (limits : Limits) (text : List ℕ) (old : List Beat) (rest : List ℕ)
+    (new : List Beat) : Type 0 where
   pub leaves : LeavesSchedule limits (words_of (first_line text)) old (words_of (first_line rest)) new
   pub after : after_line text ≡ after_line rest
   pub fewer : length (words_of (first_line rest)) ≤ length (words_of (first_line text))
@@ -93,12 +102,17 @@ pub record IsLineOfBeats (text : List ℕ) : Type 0 where
 -- the first line of a text is such a line, its beats are put and what follows it is left. Or it fails at a check
 abbrev pub AddsLine : Limits → List ℕ → List Beat → List Beat → ℕ → Result (Bor (List ℕ)) LineAnswer → Type 0
 AddsLine limits text old new events added =
-    IsLineOfBeats text × IsScheduled limits (words_of (first_line text)) old new events added × IfOk added (λ rest. rest.now ≡ after_line text)
+    IsLineOfBeats text × IsScheduled limits (words_of (first_line text)) old new events added
+    × IfOk added (λ rest. rest.now ≡ after_line text)
 
--- the first of some lines that count does not end a load, and its beats are put; the others are left. Or it fails at a check
-abbrev pub AddsShortLine : Limits → List (ℕ × List ℕ) → List Beat → List (ℕ × List ℕ) → List Beat → ℕ → Result (Unit {0}) ScriptAnswer → Type 0
+-- the first of some lines that count does not end a load, and its beats are put; the others are left. Or it fails at a
+-- check
+abbrev pub AddsShortLine : Limits → List (ℕ × List ℕ) → List Beat → List (ℕ × List ℕ) → List Beat → ℕ →
+    Result (Unit {0}) ScriptAnswer → Type 0
 AddsShortLine limits lines old left new events (Ok _) =
-    (line : ℕ × List ℕ) × (lines ≡ line ∷ left) × (has_form (words_of line.1) End ≡ false) × IsScheduled {A = Unit {0}} limits (words_of line.1) old new events (Ok tt)
+    (line : ℕ × List ℕ) × (lines ≡ line ∷ left) × (has_form (words_of line.1) End ≡ false)
+    × IsScheduled {A = Unit {0}} limits (words_of line.1) old new events (Ok tt)
 AddsShortLine limits lines old left new events (Err answer) =
-    (line : ℕ × List ℕ) × (more : List (ℕ × List ℕ)) × (why : LineAnswer) × (lines ≡ line ∷ more) × (has_form (words_of line.1) End ≡ false)
+    (line : ℕ × List ℕ) × (more : List (ℕ × List ℕ)) × (why : LineAnswer) × (lines ≡ line ∷ more)
+    × (has_form (words_of line.1) End ≡ false)
     × IsScheduled {A = Unit {0}} limits (words_of line.1) old new events (Err why) × (answer ≡ answer_at line.0 why)

@@ -5,7 +5,8 @@ ghost use Rattle.script_text.specs.Forms.{is_beat};
 ghost use Rattle.script_text.specs.Within.{fits_beat, events_of_beat};
 ghost use Rattle.uc_script.specs.FirstLine.{left_words, left_text};
 ghost use Rattle.uc_script.specs.declared.answer.LineAnswer.TheVariants.{NoMemory as LineNoMemory};
-ghost use Rattle.uc_script.specs.Schedules.{IsBeatOf, IsNextBeat, IsScheduled, Counted, IsFirstBeat, IsFirstEvent, AddsBeats, AddsLine};
+ghost use Rattle.uc_script.specs.Schedules.{IsBeatOf, IsNextBeat, IsScheduled, Counted, IsFirstBeat, IsFirstEvent};
+ghost use Rattle.uc_script.specs.Schedules.{AddsBeats, AddsLine};
 
 use crate::answer::LineAnswer;
 use crate::rest::split_line;
@@ -18,8 +19,8 @@ use uc_text::{Words, number};
 /// The events that one load may have.
 pub const MOST_EVENTS: u64 = 4_194_304;
 
-/// A beat that the first word of a text states, what follows the word and the byte behind it, and whether that byte ends
-/// the line.
+/// A beat that the first word of a text states, what follows the word and the byte behind it, and whether that byte
+/// ends the line.
 #[derive(Clone, Copy, Debug)]
 struct FirstBeat<'a> {
     beat: Beat,
@@ -43,8 +44,8 @@ fn first_beat(limits: Limits, text: &[u8]) -> Option<FirstBeat<'_>>
     }
 }
 
-/// Puts the beats of the first line of a text behind those of its load, whose events are counted, and returns what follows
-/// the line, where it begins with a short word that states a beat. Where it doesn't, nothing is taken.
+/// Puts the beats of the first line of a text behind those of its load, whose events are counted, and returns what
+/// follows the line, where it begins with a short word that states a beat. Where it doesn't, nothing is taken.
 #[inline(always)]
 pub fn add_line<'a>(
     limits: Limits,
@@ -53,7 +54,8 @@ pub fn add_line<'a>(
     events: &mut u64,
 ) -> Option<Result<&'a [u8], LineAnswer>>
     requires { Counted limits beats.old events.old }
-    ensures { MatchOption result ((beats.new ≡ beats.old) × (events.new ≡ events.old)) (AddsLine limits text.now beats.old beats.new events.new) }
+    ensures { MatchOption result ((beats.new ≡ beats.old) × (events.new ≡ events.old))
+        (AddsLine limits text.now beats.old beats.new events.new) }
 {
     let first = first_beat(limits, text)?;
     *events = events.saturating_add(events_of(limits, first.beat));
@@ -104,7 +106,9 @@ fn add_short<'a>(
     events: &mut u64,
 ) -> Result<&'a [u8], LineAnswer>
     requires { Counted limits beats.old events.old }
-    ensures { MatchResult result (λ rest. AddsBeats limits text.now beats.old rest.now beats.new × Counted limits beats.new events.new) (λ answer. answer ≡ LineNoMemory) }
+    ensures { MatchResult result
+        (λ rest. AddsBeats limits text.now beats.old rest.now beats.new × Counted limits beats.new events.new)
+        (λ answer. answer ≡ LineNoMemory) }
 {
     match text {
         [_, _, b' ', ..] => add_run(limits, text, beats, events),
@@ -122,7 +126,9 @@ fn add_run<'a>(
     events: &mut u64,
 ) -> Result<&'a [u8], LineAnswer>
     requires { Counted limits beats.old events.old }
-    ensures { MatchResult result (λ rest. AddsBeats limits text.now beats.old rest.now beats.new × Counted limits beats.new events.new) (λ answer. answer ≡ LineNoMemory) }
+    ensures { MatchResult result
+        (λ rest. AddsBeats limits text.now beats.old rest.now beats.new × Counted limits beats.new events.new)
+        (λ answer. answer ≡ LineNoMemory) }
 {
     let (mut rest, mut count) = (text, *events);
     while let Some(first) = first_of_run(limits, rest) {
@@ -172,7 +178,8 @@ pub fn first_event(limits: Limits, text: &[u8], is_last: bool) -> Option<FirstEv
 /// The event of a mark, where it is one of an event, and of a thread, where it is there.
 #[inline(always)]
 fn event_of(limits: Limits, mark: u8, thread: u16) -> Option<Beat>
-    ensures { IfSome result (λ event. IsBeatOf limits mark (Some thread) (Ok event) × (events_of_beat limits event ≡ 1)) }
+    ensures { IfSome result
+        (λ event. IsBeatOf limits mark (Some thread) (Ok event) × (events_of_beat limits event ≡ 1)) }
 {
     match beat_of(limits, mark, thread) {
         Some(Beat::Rounds(_)) => None,
@@ -243,7 +250,8 @@ fn next_beat(limits: Limits, words: &mut Words) -> Option<Result<Beat, ScriptCau
     Some(read_beat(limits, first_byte(word), number(after_first(word))))
 }
 
-/// The beat of a word by its first byte and the number that the rest spells, where it does; or the first check that fails.
+/// The beat of a word by its first byte and the number that the rest spells, where it does; or the first check that
+/// fails.
 #[inline(always)]
 fn read_beat(limits: Limits, first: u8, number: Option<u64>) -> Result<Beat, ScriptCause>
     ensures { IsBeatOf limits first number result }

@@ -39,7 +39,13 @@ impl Model for Draft {
 
     ghost Value = { Before };
 
-    ghost view = { λ d. record { place = d.place; pool = d.pool; patience = d.patience; commands = d.commands.items; load = no_load } };
+    ghost view = { λ d. record {
+      place = d.place;
+      pool = d.pool;
+      patience = d.patience;
+      commands = d.commands.items;
+      load = no_load;
+    } };
 
     ghost invariant = { λ d. d.place ≢ InLoad };
 }
@@ -47,7 +53,8 @@ impl Model for Draft {
 impl Draft {
     ghost use Rattle.script_text.specs.Stands.{opening};
     ghost use Rattle.script_text.specs.Reading.{finished};
-    ghost use Rattle.uc_script.specs.Answers.{IsAdded, GoesOn, IsRead, AddsCommand, AddsLoad, EndsLoad, SetsPool, SetsPatience, is_single, spelling, without_form};
+    ghost use Rattle.uc_script.specs.Answers.{IsAdded, GoesOn, IsRead, AddsCommand, AddsLoad, EndsLoad, SetsPool};
+    ghost use Rattle.uc_script.specs.Answers.{SetsPatience, is_single, spelling, without_form};
 
     /// Before the first line.
     pub fn new(alloc: Global) -> Self
@@ -69,7 +76,8 @@ impl Draft {
         line: &Line,
         lines: &mut Rest,
     ) -> Result<(), ScriptAnswer>
-        ensures { GoesOn limits self.old ((line.now.number, line.now.text.now) ∷ filter counts lines.old) self.new (filter counts lines.new) result }
+        ensures { GoesOn limits self.old ((line.now.number, line.now.text.now) ∷ filter counts lines.old) self.new
+            (filter counts lines.new) result }
     {
         let Some(form) = form_of(self.place, line.text) else {
             return Err(fault_at(line.number, self.without_form()));
@@ -177,7 +185,9 @@ impl Draft {
         lines: &mut Rest,
     ) -> Result<(), ScriptAnswer>
         requires { list_all is_utf8 (drop 1 (words_of line.now.text.now)) ≡ true }
-        ensures { AddsLoad limits self.old (record { line = line.now.number; force = force; names = drop 1 (words_of line.now.text.now); beats = [] }) (filter counts lines.old) self.new (filter counts lines.new) result }
+        ensures { AddsLoad limits self.old
+            (record { line = line.now.number; force = force; names = drop 1 (words_of line.now.text.now); beats = [] })
+            (filter counts lines.old) self.new (filter counts lines.new) result }
     {
         if self.commands.len() >= MOST_COMMANDS {
             return Err(fault_at(line.number, ScriptCause::TooMany));
@@ -203,7 +213,8 @@ impl Draft {
         lines: &mut Rest,
     ) -> Result<(), ScriptAnswer>
         requires { load.beats ≡ [] }
-        ensures { GoesOn limits (record self.old { place = InLoad; load = load }) (filter counts lines.old) self.new (filter counts lines.new) result }
+        ensures { GoesOn limits (record self.old { place = InLoad; load = load }) (filter counts lines.old) self.new
+            (filter counts lines.new) result }
     {
         let mut load = load;
         let mut events = 0;

@@ -3,7 +3,8 @@ ghost use Rattle.std.specs.Prelude.{◌≡◌, false, IsTrue};
 ghost use Rattle.std.specs.List.{list_all};
 ghost use Rattle.std.specs.Str.{is_utf8};
 ghost use Rattle.uc_text.specs.Lines.{words_of};
-ghost use Rattle.script_text.specs.Forms.{is_beat, is_number, are_names, takes_the_rest, have_last, have_form, has_form, form_of};
+ghost use Rattle.script_text.specs.Forms.{is_beat, is_number, are_names, takes_the_rest, have_last, have_form};
+ghost use Rattle.script_text.specs.Forms.{has_form, form_of};
 ghost use Rattle.script_text.specs.declared.forms.Form.TheVariants.{End};
 
 use crate::beats::is_beat;

@@ -11,9 +11,9 @@ use script_text::{Limits, Script};
 use std::alloc::Global;
 
 /// The script that a text states for a machine of so many threads and cores, or the first fault. The text has at most
-/// 16,777,216 bytes. Lines without words, and those that begin with `#`, are skipped. The first line is `ucode-script 1`;
-/// `pool` and `patience` may follow, and then the commands, as `online 1`. A load's schedule stands between its line,
-/// as `load a.bin`, and `end`. Memory goes by the text: `*K` is kept as one beat.
+/// 16,777,216 bytes. Lines without words, and those that begin with `#`, are skipped. The first line is
+/// `ucode-script 1`; `pool` and `patience` may follow, and then the commands, as `online 1`. A load's schedule stands
+/// between its line, as `load a.bin`, and `end`. Memory goes by the text: `*K` is kept as one beat.
 pub fn read_script(
     alloc: Global,
     bytes: &[u8],
@@ -23,7 +23,8 @@ pub fn read_script(
     requires { length bytes.now ≤ 16777216 }
     ensures states { IfOk result (States (record { threads = threads; cores = cores }) bytes.now) }
     ensures within { IfOk result (IsWithin (record { threads = threads; cores = cores })) }
-    ensures fault { IfErr result (λ answer. IfFault answer (FirstFault (record { threads = threads; cores = cores }) bytes.now)) }
+    ensures fault { IfErr result
+        (λ answer. IfFault answer (FirstFault (record { threads = threads; cores = cores }) bytes.now)) }
 {
     read(alloc, bytes, Limits { threads, cores })
 }

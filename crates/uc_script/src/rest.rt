@@ -48,7 +48,8 @@ impl<'a> Rest<'a> {
 
     /// The next line that counts: those without words, and those that begin with `#`, are passed over.
     pub fn next_counted(&mut self) -> Option<Line<'a>>
-        ensures { MatchOption result ((filter counts self.old ≡ []) × (filter counts self.new ≡ [])) (λ line. filter counts self.old ≡ (line.number, line.text.now) ∷ filter counts self.new) }
+        ensures { MatchOption result ((filter counts self.old ≡ []) × (filter counts self.new ≡ []))
+            (λ line. filter counts self.old ≡ (line.number, line.text.now) ∷ filter counts self.new) }
     {
         while let Some(line) = self.next_line() {
             if counts(&line) {
@@ -61,7 +62,8 @@ impl<'a> Rest<'a> {
     /// The next line, whether it counts or not.
     #[inline(always)]
     fn next_line(&mut self) -> Option<Line<'a>>
-        ensures { MatchOption result ((self.old ≡ []) × (self.new ≡ [])) (λ line. self.old ≡ (line.number, line.text.now) ∷ self.new) }
+        ensures { MatchOption result ((self.old ≡ []) × (self.new ≡ []))
+            (λ line. self.old ≡ (line.number, line.text.now) ∷ self.new) }
     {
         if self.text.is_empty() {
             return None;
@@ -86,7 +88,9 @@ impl<'a> Rest<'a> {
         events: &mut u64,
     ) -> Result<(), NoMemory>
         requires { Counted limits beats.old events.old }
-        ensures { OnOk result (ReadsOn limits (filter counts self.old) beats.old (filter counts self.new) beats.new × Counted limits beats.new events.new) }
+        ensures { OnOk result
+            (ReadsOn limits (filter counts self.old) beats.old (filter counts self.new) beats.new
+            × Counted limits beats.new events.new) }
     {
         let (mut text, mut number) = (self.text, self.number);
         while *events < MOST_EVENTS {
@@ -113,7 +117,9 @@ impl<'a> Rest<'a> {
         events: &mut u64,
     ) -> Option<Result<(), ScriptAnswer>>
         requires { Counted limits beats.old events.old }
-        ensures { MatchOption result ((self.new ≡ self.old) × (beats.new ≡ beats.old) × (events.new ≡ events.old)) (λ added. AddsShortLine limits (filter counts self.old) beats.old (filter counts self.new) beats.new events.new added) }
+        ensures { MatchOption result ((self.new ≡ self.old) × (beats.new ≡ beats.old) × (events.new ≡ events.old))
+            (λ added. AddsShortLine limits (filter counts self.old) beats.old
+            (filter counts self.new) beats.new events.new added) }
     {
         match add_line(limits, self.text, beats, events)? {
             Ok(text) => {
@@ -133,8 +139,8 @@ fn counts(line: &Line) -> bool
     line.text.first() != Some(&b'#') && Words::new(line.text).next().is_some()
 }
 
-/// Where the first LF stands, or the length where there is none. Lines that are skipped are mostly short, so they are gone
-/// through byte by byte.
+/// Where the first LF stands, or the length where there is none. Lines that are skipped are mostly short, so they are
+/// gone through byte by byte.
 #[inline(always)]
 fn line_feed_at(text: &[u8]) -> usize
     ensures value { result ≡ position_or_len is_line_feed text.now }

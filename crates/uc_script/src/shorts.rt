@@ -15,7 +15,8 @@ pub struct Short<'a> {
 /// The first word of a text, where it is short, begins the text, and a blank or LF stands behind it.
 #[inline(always)]
 pub fn first_short(text: &[u8]) -> Option<Short<'_>>
-    ensures { IfSome result (λ word. is_mark word.mark ≡ true → IsFirstShort text.now word.mark word.number word.rest.now word.is_last) }
+    ensures { IfSome result
+        (λ word. is_mark word.mark ≡ true → IsFirstShort text.now word.mark word.number word.rest.now word.is_last) }
 {
     let [mark, one, after, rest @ ..] = text else {
         return None;
@@ -67,7 +68,9 @@ pub fn first_short(text: &[u8]) -> Option<Short<'_>>
 /// line is to end. No other shape is looked at, so that this stays small where it is laid into a loop.
 #[inline(always)]
 pub fn first_of_two_bytes(text: &[u8], is_last: bool) -> Option<Short<'_>>
-    ensures { IfSome result (λ word. (is_mark word.mark ≡ true → IsFirstShort text.now word.mark word.number word.rest.now word.is_last) × (word.is_last ≡ is_last)) }
+    ensures { IfSome result
+        (λ word. (is_mark word.mark ≡ true → IsFirstShort text.now word.mark word.number word.rest.now word.is_last)
+        × (word.is_last ≡ is_last)) }
 {
     let [mark, digit, after, rest @ ..] = text else {
         return None;

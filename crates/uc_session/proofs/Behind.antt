@@ -12,7 +12,8 @@ use Rattle.session_text.specs.declared.answers.Played.{Played}
 use Rattle.session_text.specs.declared.answers.Played.TheVariants.{Answered, WriteFault, NoMemory}
 use Rattle.session_steps.specs.State.{Setting, State}
 use Rattle.session_steps.specs.Did.{Did}
-use Rattle.session_steps.specs.Session.{heading, text_of, names_in}
+use Rattle.session_text.specs.Headings.{heading, names_in}
+use Rattle.session_steps.specs.Session.{text_of}
 use Rattle.session_steps.specs.Calls.{Outside, Situation}
 use Rattle.session_steps.specs.Played.{is_read_fault, MayRun, FileCause, ran_once, Starts, IsPlayed, LeftBy}
 use Rattle.uc_session.specs.Playing.{told_of, WroteFront, Follows}

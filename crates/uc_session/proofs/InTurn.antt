@@ -21,10 +21,10 @@ use Rattle.session_steps.specs.Calls.{Outside, HeldWhere, Surroundings, Situatio
 use Rattle.session_steps.specs.Played.{Answers, Starts}
 use Rattle.session_steps.specs.Whole.{PlaysWhole, PlaysFront, IsPlayedThrough, SinkCauseAt}
 use Rattle.session_laws.specs.Standing.{InRange}
-use Rattle.session_runs.specs.SoFar.{PlayedSoFar}
-use Rattle.session_runs.specs.Laws.{BegunGoesOn}
-use Rattle.session_runs.proofs.Within.{limits_of, beats_in_range}
-use Rattle.session_runs.proofs.Played.{with_files, all_played, one_more, last_played, cut_short}
+use Rattle.cut_laws.specs.SoFar.{PlayedSoFar}
+use Rattle.cut_laws.specs.Laws.{BegunGoesOn}
+use Rattle.cut_laws.proofs.Within.{limits_of, beats_in_range}
+use Rattle.cut_laws.proofs.Played.{with_files, all_played, one_more, last_played, cut_short}
 use Rattle.uc_session.specs.Playing.{BeatsInRange}
 
 -- a count that stood still until a command ended the session

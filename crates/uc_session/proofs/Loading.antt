@@ -41,45 +41,10 @@ use Rattle.uc_session.specs.Playing.{Does}
 use Rattle.uc_session.proofs.Behind.{come}
 use Rattle.uc_session.proofs.Meeting.{run_outside, traces_of, is_stopped, is_met}
 
--- what is known once a load has its plan
-pub record Facts (held : List Read → Type 0) (setting : Setting) (force : Bool) (names : List (List ℕ)) (before now : Stage) (ready : Ready) (tables : Tables) : Type 0 where
-  pub sets : SetsOut held setting force names before now ready
-  pub standing : Standing setting before.state
-  pub plan_is :
-      (entries : List Entry) (offers : List (Option ℕ)) (old : State) (put : IsPut setting entries offers old now.state ready.places) →
-      plan_of tables ≡ load_plan setting old put.puts offers
-  pub sound_is :
-      (force : Bool) (names : List (List ℕ)) (reads : List Read) (entries : List Entry) (offers : List (Option ℕ)) (old : State) →
-      IsPut setting entries offers old now.state ready.places →
-      Standing setting old → AllPresent setting old → ReadAll names reads entries →
-      AreLoadOffers setting old force entries offers → SomethingOffered offers → IsSound tables
-  pub padded_law : (p : Tables) → IsSound p → Padded (plan_of p)
-
--- the same of the setting that the calls before the plan left, and of the places as they were lent
-pub facts :
-    (held : List Read → Type 0) (setting first : Setting) (force : Bool) (names : List (List ℕ)) (before now : Stage) (ready : Ready) (tables : Tables) (places : List (Option PatchId)) →
-    setting ≡ first → places ≡ ready.places →
-    SetsOut held first force names before now ready → Standing first before.state →
-    ((entries : List Entry) (offers : List (Option ℕ)) (old : State) (put : IsPut setting entries offers old now.state places) → plan_of tables ≡ load_plan setting old put.puts offers) →
-    ((force : Bool) (names : List (List ℕ)) (reads : List Read) (entries : List Entry) (offers : List (Option ℕ)) (old : State) → IsPut setting entries offers old now.state places → Standing setting old → AllPresent setting old → ReadAll names reads entries → AreLoadOffers setting old force entries offers → SomethingOffered offers → IsSound tables) →
-    ((p : Tables) → IsSound p → Padded (plan_of p)) →
-    Facts held setting force names before now ready tables
-facts held setting first force names before now ready tables places same lent sets standing plan_is sound_is padded_law = record {
-  sets = subst (λ (s : Setting). SetsOut held s force names before now ready) (sym same) sets;
-  standing = subst (λ (s : Setting). Standing s before.state) (sym same) standing;
-  plan_is =
-      subst (λ (all : List (Option PatchId)). (entries : List Entry) (offers : List (Option ℕ)) (old : State) (put : IsPut setting entries offers old now.state all) → plan_of tables ≡ load_plan setting old put.puts offers)
-      lent plan_is;
-  sound_is =
-      subst (λ (all : List (Option PatchId)). (force : Bool) (names : List (List ℕ)) (reads : List Read) (entries : List Entry) (offers : List (Option ℕ)) (old : State) → IsPut setting entries offers old now.state all → Standing setting old → AllPresent setting old → ReadAll names reads entries → AreLoadOffers setting old force entries offers → SomethingOffered offers → IsSound tables)
-      lent sound_is;
-  padded_law = padded_law;
-}
-
-module _ (held : List Read → Type 0) (setting : Setting) (force : Bool) (names : List (List ℕ)) (before now : Stage) (ready : Ready) (tables : Tables)
-    (known : Facts held setting force names before now ready tables) where
-  abbrev sets : SetsOut held setting force names before now ready
-  sets = known.sets
+module _ (held : List Read → Type 0) (setting : Setting) (force : Bool) (names : List (List ℕ)) (before now : Stage)
+    (ready : Ready) (sets : SetsOut held setting force names before now ready) where
+  abbrev tables : Tables
+  tables = ready.plan
 
   abbrev old : State
   old = before.state
@@ -100,12 +65,10 @@ module _ (held : List Read → Type 0) (setting : Setting) (force : Bool) (names
   plan = load_plan setting old puts offers
 
   is_plan : plan_of tables ≡ plan
-  is_plan = known.plan_is entries offers old sets.from.put
+  is_plan = sets.from.plan_is
 
-  pub is_sound : IsSound tables
-  is_sound =
-      known.sound_is force names sets.reads entries offers old sets.from.put known.standing sets.present sets.read sets.from.are_offers
-      sets.from.something
+  is_sound : IsSound tables
+  is_sound = sets.sound
 
   pub threads_are : tables.threads ≡ (machine_of setting).threads
   unfolding load_plan
@@ -128,10 +91,10 @@ module _ (held : List Read → Type 0) (setting : Setting) (force : Bool) (names
   pub power_is_on : is_on new.hardware.power ≡ true
   power_is_on =
       ap (λ (h : Hardware). is_on h.power) hardware_stays
-      ∙ something_is_on setting old force entries offers known.standing sets.from.are_offers sets.from.something
+      ∙ something_is_on setting old force entries offers sets.standing sets.from.are_offers sets.from.something
 
   padded : Padded (plan_of tables)
-  padded = known.padded_law tables is_sound
+  padded = sets.padded
 
   -- the rendezvous, and what the call finds
   module _ {D : Type 0} (meanings : RunOutside D) (beats : List Beat) (traces : RunTraces D) where

@@ -1,5 +1,5 @@
 -- A load that does not come to its rendezvous, as a step of a session.
-use Rattle.std.proofs.Common.{◌≡◌, ℕ, Bool, true, List, [], Some, refl, sym, subst}
+use Rattle.std.proofs.Common.{◌≡◌, ℕ, ◌<◌, Bool, true, List, [], length, All, Option, IfSome, Some, refl, sym, subst}
 use Rattle.std.proofs.lemmas.List.Elements.{All-nil}
 use Rattle.uc_io.specs.Faults.{Rose}
 use Rattle.uc_bytes.specs.declared.causes.FileFault.{FileFault}
@@ -8,9 +8,17 @@ use Rattle.update_reads.specs.Reading.{IsOfFiles, UnreadAt, RefusedAt}
 use Rattle.update_reads.proofs.Files.{all_entries}
 use Rattle.uc_catalog.specs.Contents.{Contents}
 use Rattle.session_text.specs.declared.answers.LoadAnswer.TheVariants as load
-use Rattle.session_steps.specs.State.{Setting, first_missing}
+use Rattle.session_steps.specs.State.{Setting, State, first_missing}
+use Rattle.session_steps.specs.Offers.{AreLoadOffers, SomethingOffered, plan_of as load_plan}
 use Rattle.session_steps.specs.Step.{AllPresent, ReadAll}
 use Rattle.session_steps.specs.Calls.{HeldWhere}
+use Rattle.rendezvous_steps.specs.Padded.{Padded}
+use Rattle.patch_pool.specs.declared.pool.PatchId.{PatchId}
+use Rattle.file_entries.specs.Entry.{Entry}
+use Rattle.session_laws.specs.Standing.{Standing}
+use Rattle.ctl_words.specs.declared.plans.Plan.{Plan as Tables}
+use Rattle.ctl_words.specs.Plans.{plan_of, IsSound}
+use Rattle.session_parts.specs.Loads.{IsPut}
 use Rattle.uc_session.specs.declared.setting_out.Stop.{Stop}
 use Rattle.uc_session.specs.declared.setting_out.Stop.TheVariants.{Answer, NoMemory}
 use Rattle.uc_session.specs.Acts.{Stage}
@@ -103,14 +111,59 @@ module _ (tells : Type 0) (holds : List ℕ → List ℕ) (setting : Setting) (f
       stops NoMemory is same = absurd is
 
       -- something is offered, and it was put
-      pub sets_out : (ready : Ready) → SetsOutFrom setting force contents before.state now.state ready →
-          SetsOut (HeldWhere tells holds) setting force names before now ready
-      sets_out ready is = record {
-        reads = read.reads;
-        is_held = read.held;
-        still = still;
-        present = present;
-        read = subst (λ (all : Contents). ReadAll names read.reads all.entries) (sym is.catalog) all_read;
-        from =
-            subst (λ (all : Contents). SetsOutFrom setting force all before.state now.state ready) (sym is.catalog) is;
-      }
+      pub sets_out : (left : Setting) → left ≡ setting → Standing setting before.state →
+          ((plan : Tables) → IsSound plan → Padded (plan_of plan)) → (ready : Ready) →
+          SetsOutFrom left force contents before.state now.state ready →
+          SetsOut (HeldWhere tells holds) left force names before now ready
+      sets_out left same standing pads ready is =
+          let there : AllPresent left before.state = subst (λ (s : Setting). AllPresent s before.state) (sym same) present in
+          let sound : IsSound ready.plan = is.sound names read.reads there all_read in
+          record {
+            reads = read.reads;
+            is_held = read.held;
+            still = still;
+            standing = subst (λ (s : Setting). Standing s before.state) (sym same) standing;
+            present = there;
+            read = subst (λ (all : Contents). ReadAll names read.reads all.entries) (sym is.catalog) all_read;
+            from =
+                subst (λ (all : Contents). SetsOutFrom left force all before.state now.state ready) (sym is.catalog) is;
+            sound = sound;
+            padded = pads ready.plan sound;
+          }
+
+-- what was put, of the setting that the calls before the plan left, and of the places as they were lent
+pub sets_out_from :
+    (setting first : Setting) (force : Bool) (contents : Contents) (old new : State) (ready : Ready)
+    (places : List (Option PatchId)) → setting ≡ first → places ≡ ready.places → ready.catalog ≡ contents →
+    AreLoadOffers first old force contents.entries ready.offers → SomethingOffered ready.offers →
+    All (λ offer. IfSome offer (λ number. number < length contents.entries)) ready.offers →
+    IsPut first contents.entries ready.offers old new ready.places → Standing first old →
+    ((entries : List Entry) (offers : List (Option ℕ)) (before : State)
+    (put : IsPut setting entries offers before new places) → plan_of ready.plan ≡ load_plan setting before put.puts offers) →
+    ((force : Bool) (names : List (List ℕ)) (reads : List Read) (entries : List Entry) (offers : List (Option ℕ))
+    (before : State) → IsPut setting entries offers before new places → Standing setting before →
+    AllPresent setting before → ReadAll names reads entries → AreLoadOffers setting before force entries offers →
+    SomethingOffered offers → IsSound ready.plan) →
+    SetsOutFrom setting force contents old new ready
+sets_out_from setting first force contents old new ready places same lent catalog are_offers something within put
+    standing plan_is sound_is =
+    let are : AreLoadOffers setting old force contents.entries ready.offers =
+    subst (λ (s : Setting). AreLoadOffers s old force contents.entries ready.offers) (sym same) are_offers in
+    let here : IsPut setting contents.entries ready.offers old new ready.places =
+    subst (λ (s : Setting). IsPut s contents.entries ready.offers old new ready.places) (sym same) put in
+    record {
+      catalog = catalog;
+      are_offers = are;
+      something = something;
+      within = within;
+      put = here;
+      plan_is =
+          subst (λ (all : List (Option PatchId)). (put : IsPut setting contents.entries ready.offers old new all) →
+          plan_of ready.plan ≡ load_plan setting old put.puts ready.offers) lent
+          (plan_is contents.entries ready.offers old) here;
+      sound =
+          λ names reads present read.
+          sound_is force names reads contents.entries ready.offers old
+          (subst (λ (all : List (Option PatchId)). IsPut setting contents.entries ready.offers old new all) (sym lent) here)
+          (subst (λ (s : Setting). Standing s old) (sym same) standing) present read are something;
+    }

@@ -8,7 +8,7 @@ use Rattle.session_text.specs.declared.answers.Played.{Played}
 use Rattle.session_text.specs.declared.answers.Played.TheVariants.{Answered, WriteFault, NoMemory}
 use Rattle.session_steps.specs.State.{Setting}
 use Rattle.session_steps.specs.Did.{ups_text}
-use Rattle.session_steps.specs.Session.{heading, names_in}
+use Rattle.session_text.specs.Headings.{heading, names_in}
 use Rattle.session_steps.specs.Calls.{Outside, Situation}
 use Rattle.session_steps.specs.Played.{FileCause, IsPlayed}
 use Rattle.command_laws.specs.Steps.{SomeStep}

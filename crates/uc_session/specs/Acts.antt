@@ -15,7 +15,8 @@ ReadsNoFile (command.Boot names) = ⊥
 ReadsNoFile (command.Load force names beats) = ⊥
 ReadsNoFile one = Unit {0}
 
--- by the files that were read: nothing is shown before the state changes, and the threads that came up are told after it
+-- by the files that were read: nothing is shown before the state changes, and the threads that came up are told after
+-- it
 abbrev pub did_by : List Read → Acted → State → Did
 did_by reads acted after = record {
   reads = reads;
@@ -32,7 +33,8 @@ pub record Stage : Type 0 where
   pub files : ℕ
 
 -- the command did this: a file is unread exactly where the files' count rose
-pub record Acts (held : List Read → Type 0) (setting : Setting) (one : Command) (before now : Stage) (acted : Acted) : Type 0 where
+pub record Acts (held : List Read → Type 0) (setting : Setting) (one : Command) (before now : Stage)
+    (acted : Acted) : Type 0 where
   pub reads : List Read
   pub is_held : held reads
   pub step : (lists : Bool) → SessionStep lists setting before.state one (did_by reads acted now.state)

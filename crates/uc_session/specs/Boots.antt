@@ -16,7 +16,8 @@ pub record Boots (setting : Setting) (entries : List Entry) (old new : State) (a
   pub booted : IsBooted setting entries offers old new acted.ups.items
 
 -- or what is offered does not fit
-pub record IsFull (setting : Setting) (entries : List Entry) (needed : ℕ) (old new : State) (acted : Acted) : Type 0 where
+pub record IsFull (setting : Setting) (entries : List Entry) (needed : ℕ) (old new : State)
+    (acted : Acted) : Type 0 where
   pub offers : List (Option ℕ)
   pub are_offers : AreOffers setting.machine entries offers
   pub full : puts_of setting old entries offers ≡ Err needed

@@ -18,25 +18,31 @@ use Rattle.uc_rendezvous.specs.Outcomes.{outcome_of}
 use Rattle.uc_rendezvous.specs.Runs.{RunOutside, RunTraces}
 
 -- the rendezvous came to an outcome: what is offered was written, and then the text of the run
-pub record CameTo {D : Type 0} (outside : RunOutside D) (plan : Plan) (beats : List Beat) (offered : List ℕ) (before now : RunTraces D) (outcome : Outcome) : Type 0 where
+pub record CameTo {D : Type 0} (outside : RunOutside D) (plan : Plan) (beats : List Beat) (offered : List ℕ)
+    (before now : RunTraces D) (outcome : Outcome) : Type 0 where
   pub items : List ℕ
   pub late : Bool
   pub ran : Ran item_line outside.lists plan beats items outcome late
   pub wrote : Writes {E = Unit {0}} outside.stands outside.faults before.sink now.sink (offered ++ items) (Ok tt)
-  pub kept : outside.lists ≡ false → now.runs ≡ before.runs ++ record { plan = plan; outcome = outcome; late = late } ∷ []
+  pub kept : outside.lists ≡ false →
+      now.runs ≡ before.runs ++ record { plan = plan; outcome = outcome; late = late } ∷ []
 
 -- a front was written of what is offered and the text of a run
-pub record CutShort {D : Type 0} (outside : RunOutside D) (plan : Plan) (beats : List Beat) (offered : List ℕ) (before now : D) : Type 0 where
+pub record CutShort {D : Type 0} (outside : RunOutside D) (plan : Plan) (beats : List Beat) (offered : List ℕ)
+    (before now : D) : Type 0 where
   pub run : SomeRun item_line outside.lists plan beats
   pub front : List ℕ
   pub is_front : IsFront front (offered ++ run.text)
   pub later : outside.faults before ≤ outside.faults now
   pub grew : Grew outside.stands before now front
 
-abbrev pub Meets : {D : Type 0} → RunOutside D → Plan → List Beat → List ℕ → RunTraces D → RunTraces D → Result Tables RunAnswer → Type 0
-Meets outside plan beats offered before now (Ok outcome) = CameTo outside plan beats offered before now (outcome_of outcome)
+abbrev pub Meets : {D : Type 0} → RunOutside D → Plan → List Beat → List ℕ → RunTraces D → RunTraces D →
+    Result Tables RunAnswer → Type 0
+Meets outside plan beats offered before now (Ok outcome) =
+    CameTo outside plan beats offered before now (outcome_of outcome)
 Meets outside plan beats offered before now (Err WriteFault) =
-    CutShort outside plan beats offered before.sink now.sink × Rose (outside.faults before.sink) (outside.faults now.sink)
+    CutShort outside plan beats offered before.sink now.sink
+    × Rose (outside.faults before.sink) (outside.faults now.sink)
 Meets outside plan beats offered before now (Err NoMemory) =
     CutShort outside plan beats offered before.sink now.sink × (outside.faults now.sink ≡ outside.faults before.sink)
 

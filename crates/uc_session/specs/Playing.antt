@@ -1,4 +1,5 @@
--- What a call came to that does a command whose heading was written, by what it wrote of the rest of the command's text.
+-- What a call came to that does a command whose heading was written, by what it wrote of the rest of the command's
+-- text.
 use Rattle.std.specs.Prelude.{◌≡◌, ℕ, ◌≤◌, false, List, ◌++◌, All, Ok, Err}
 use Rattle.uc_io.specs.Faults.{Rose}
 use Rattle.uc_io.specs.Writing.{Grew, Writes}
@@ -13,7 +14,7 @@ use Rattle.session_text.specs.declared.answers.Played.TheVariants.{Answered, Wri
 use Rattle.session_steps.specs.State.{Setting}
 use Rattle.session_steps.specs.Did.{Did}
 use Rattle.session_steps.specs.Step.{SessionStep}
-use Rattle.session_steps.specs.Session.{names_in}
+use Rattle.session_text.specs.Headings.{names_in}
 use Rattle.session_steps.specs.Calls.{Outside, Situation}
 use Rattle.session_steps.specs.Played.{LeftBy, FileCause, SinkCause, is_read_fault, ran_once}
 
@@ -22,13 +23,15 @@ abbrev pub told_of : Command → Did → List ℕ
 told_of one did = did.told ++ answer_line (names_in one) did.answer
 
 -- the whole rest was written
-pub record WroteRest {D : Type 0} (outside : Outside D) (one : Command) (did : Did) (before now : Situation D) (answer : CommandAnswer) : Type 0 where
+pub record WroteRest {D : Type 0} (outside : Outside D) (one : Command) (did : Did) (before now : Situation D)
+    (answer : CommandAnswer) : Type 0 where
   pub is_answer : answer ≡ did.answer
   pub is_after : now.state ≡ did.after
   pub grew : Grew outside.stands before.sink now.sink (did.shown ++ told_of one did)
 
 -- a front of it was
-pub record WroteFront {D : Type 0} (outside : Outside D) (one : Command) (did : Did) (before now : Situation D) : Type 0 where
+pub record WroteFront {D : Type 0} (outside : Outside D) (one : Command) (did : Did)
+    (before now : Situation D) : Type 0 where
   pub front : List ℕ
   pub is_front : IsFront front (did.shown ++ told_of one did)
   pub grew : Grew outside.stands before.sink now.sink front
@@ -41,13 +44,15 @@ FollowsBy outside one did before now WriteFault =
     × Rose (outside.faults before.sink) (outside.faults now.sink)
 FollowsBy outside one did before now NoMemory = WroteFront outside one did before now × (now.state ≡ before.state)
 
-pub record Follows {D : Type 0} (outside : Outside D) (one : Command) (did : Did) (before now : Situation D) (come : Played) : Type 0 where
+pub record Follows {D : Type 0} (outside : Outside D) (one : Command) (did : Did) (before now : Situation D)
+    (come : Played) : Type 0 where
   pub later : outside.faults before.sink ≤ outside.faults now.sink
   pub cause : SinkCause come (outside.faults before.sink) (outside.faults now.sink)
   pub follows : FollowsBy outside one did before now come
 
 -- the command was done, or is cut short: a file is unread exactly where the files' count rose
-pub record Does {D : Type 0} (outside : Outside D) (setting : Setting) (one : Command) (before now : Situation D) (come : Played) : Type 0 where
+pub record Does {D : Type 0} (outside : Outside D) (setting : Setting) (one : Command) (before now : Situation D)
+    (come : Played) : Type 0 where
   pub did : Did
   pub step : SessionStep outside.lists setting before.state one did
   pub is_held : outside.held did.reads

@@ -65,7 +65,8 @@ impl Acted {
 
     /// By a row in which one thread comes up.
     pub fn by_bring_up(row: Result<BringUp, HotAnswer>) -> Acted
-        ensures { MatchResult row (λ up. (result.ups.items ≡ up ∷ []) × (result.answer ≡ Done)) (λ answer. (result.ups.items ≡ []) × (result.answer ≡ Hot answer)) }
+        ensures { MatchResult row (λ up. (result.ups.items ≡ up ∷ []) × (result.answer ≡ Done))
+            (λ answer. (result.ups.items ≡ []) × (result.answer ≡ Hot answer)) }
     {
         match row {
             Ok(up) => {
@@ -79,7 +80,8 @@ impl Acted {
 
     /// By a row in which threads come up.
     pub fn by_bring_ups(row: Result<ArrayVec<BringUp, 256>, HotAnswer>) -> Acted
-        ensures { MatchResult row (λ ups. (result.ups.items ≡ ups.items) × (result.answer ≡ Done)) (λ answer. (result.ups.items ≡ []) × (result.answer ≡ Hot answer)) }
+        ensures { MatchResult row (λ ups. (result.ups.items ≡ ups.items) × (result.answer ≡ Done))
+            (λ answer. (result.ups.items ≡ []) × (result.answer ≡ Hot answer)) }
     {
         match row {
             Ok(ups) => Acted::all_up(ups),
@@ -89,7 +91,8 @@ impl Acted {
 
     /// Writes the threads that came up, and the answer of a command with these names of files.
     pub fn put<S: Sink>(&self, out: &mut S, names: &[Text]) -> Result<(), SinkFailed>
-        ensures { Writes S.stands S.faults out.old out.new (ups_text self.now.ups.items ++ answer_line names.now self.now.answer) result }
+        ensures { Writes S.stands S.faults out.old out.new
+            (ups_text self.now.ups.items ++ answer_line names.now self.now.answer) result }
     {
         put_ups(out, self.ups.as_slice())?;
         put_answer(out, names, self.answer)

@@ -31,8 +31,12 @@ pub fn boot<F: Files>(
 ) -> Result<Acted, NoMemory>
     requires few { length names.now ≤ 16 }
     requires standing { Standing (setting_of parts.old) (state_of parts.old) }
-    ensures done { IfOk result (Acts (HeldWhere (F.tells files.old) (F.holds files.old)) (setting_of parts.old) (Boot names.now) (record { state = state_of parts.old; files = F.faults files.old }) (record { state = state_of parts.new; files = F.faults files.new })) }
-    ensures memory { IfErr result (λ _. (state_of parts.new ≡ state_of parts.old) × (F.faults files.new ≡ F.faults files.old)) }
+    ensures done { IfOk result
+        (Acts (HeldWhere (F.tells files.old) (F.holds files.old)) (setting_of parts.old) (Boot names.now)
+        (record { state = state_of parts.old; files = F.faults files.old })
+        (record { state = state_of parts.new; files = F.faults files.new })) }
+    ensures memory { IfErr result
+        (λ _. (state_of parts.new ≡ state_of parts.old) × (F.faults files.new ≡ F.faults files.old)) }
     ensures setting { setting_of parts.new ≡ setting_of parts.old }
     ensures same { F.holds files.new ≡ F.holds files.old }
     ensures still { F.tells files.old → F.tells files.new }
@@ -62,8 +66,12 @@ fn boot_off<F: Files>(
     requires few { length names.now ≤ 16 }
     requires standing { Standing (setting_of parts.old) (state_of parts.old) }
     requires off { is_off (state_of parts.old).hardware.power ≡ true }
-    ensures done { IfOk result (Acts (HeldWhere (F.tells files.old) (F.holds files.old)) (setting_of parts.old) (Boot names.now) (record { state = state_of parts.old; files = F.faults files.old }) (record { state = state_of parts.new; files = F.faults files.new })) }
-    ensures memory { IfErr result (λ _. (state_of parts.new ≡ state_of parts.old) × (F.faults files.new ≡ F.faults files.old)) }
+    ensures done { IfOk result
+        (Acts (HeldWhere (F.tells files.old) (F.holds files.old)) (setting_of parts.old) (Boot names.now)
+        (record { state = state_of parts.old; files = F.faults files.old })
+        (record { state = state_of parts.new; files = F.faults files.new })) }
+    ensures memory { IfErr result
+        (λ _. (state_of parts.new ≡ state_of parts.old) × (F.faults files.new ≡ F.faults files.old)) }
     ensures setting { setting_of parts.new ≡ setting_of parts.old }
     ensures same { F.holds files.new ≡ F.holds files.old }
     ensures still { F.tells files.old → F.tells files.new }
@@ -82,7 +90,8 @@ fn boot_from(parts: &mut Parts, catalog: &Catalog) -> Acted
     requires standing { Standing (setting_of parts.old) (state_of parts.old) }
     requires off { is_off (state_of parts.old).hardware.power ≡ true }
     requires keeps { IsTrue catalog.now.keeps }
-    ensures done { BootsTo (setting_of parts.old) catalog.now.entries (state_of parts.old) (state_of parts.new) result result.answer }
+    ensures done { BootsTo (setting_of parts.old) catalog.now.entries (state_of parts.old)
+        (state_of parts.new) result result.answer }
     ensures setting { setting_of parts.new ≡ setting_of parts.old }
 {
     let offers = parts.boot_offers(catalog);

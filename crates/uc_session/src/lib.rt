@@ -1,4 +1,5 @@
-//! A session on a simulated machine: one command after another, each answered, written and done as `session_steps` says.
+//! A session on a simulated machine: one command after another, each answered, written and done as `session_steps`
+//! says.
 //!
 //! The session is written over any rendezvous, any files and any sink. `verdict` is what a load makes of an outcome.
 #![tactic(auto)]
@@ -17,6 +18,3 @@ mod verdicts;
 pub use running::run_session;
 pub use sessions::Session;
 pub use verdicts::verdict;
-
-#[cfg(test)]
-mod tests;

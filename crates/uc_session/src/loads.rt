@@ -50,13 +50,17 @@ fn offer_and_run<R: Rendezvous, S: Sink>(
     outcome: &mut Outcome,
 ) -> Result<(), RunAnswer>
     requires count { length tables.now.offers.items ≡ group_count topology.now.stated.cores }
-    requires within { All (λ offer. IfSome offer (λ number. number < length catalog.now.entries)) tables.now.offers.items }
+    requires within { All (λ offer. IfSome offer (λ number. number < length catalog.now.entries))
+        tables.now.offers.items }
     requires sound { IsSound tables.now.plan }
     requires few { tables.now.plan.threads ≤ R.limit how.old }
     requires in_range { All (BeatInRange tables.now.plan.threads) beats.now }
-    ensures meets { (setting : Setting) (state : State) (puts : Puts) → setting.machine ≡ topology.now → plan_of tables.now.plan ≡ load_plan setting state puts tables.now.offers.items → Meets
-        (record { stands = S.stands; faults = S.faults; lists = R.lists }) (plan_of tables.now.plan) beats.now (load_offers_text setting state catalog.now.entries tables.now.offers.items)
-        (record { runs = R.runs how.old; sink = out.old }) (record { runs = R.runs how.new; sink = out.new }) (came_to outcome.new result) }
+    ensures meets { (setting : Setting) (state : State) (puts : Puts) → setting.machine ≡ topology.now →
+        plan_of tables.now.plan ≡ load_plan setting state puts tables.now.offers.items → Meets
+        (record { stands = S.stands; faults = S.faults; lists = R.lists }) (plan_of tables.now.plan) beats.now
+        (load_offers_text setting state catalog.now.entries tables.now.offers.items)
+        (record { runs = R.runs how.old; sink = out.old }) (record { runs = R.runs how.new; sink = out.new })
+        (came_to outcome.new result) }
     ensures most_stays { R.limit how.new ≡ R.limit how.old }
 {
     tables_end();
@@ -95,7 +99,11 @@ fn put_end<S: Sink>(
     answer: CommandAnswer,
 ) -> Result<(), SinkFailed>
     requires { length outcome.now.revs.items ≡ group_count topology.now.stated.cores }
-    ensures { (setting : Setting) (state : State) (puts : Puts) (offers : List (Option ℕ)) → setting.machine ≡ topology.now → plan_of plan.now ≡ load_plan setting state puts offers → Writes S.stands S.faults out.old out.new (results_text setting state (plan_of plan.now) (outcome_of outcome.now) ++ answer_line names.now answer) result }
+    ensures { (setting : Setting) (state : State) (puts : Puts) (offers : List (Option ℕ)) →
+        setting.machine ≡ topology.now → plan_of plan.now ≡ load_plan setting state puts offers →
+        Writes S.stands S.faults out.old out.new
+        (results_text setting state (plan_of plan.now) (outcome_of outcome.now) ++ answer_line names.now answer)
+        result }
 {
     put_results(
         out,
@@ -125,7 +133,12 @@ pub fn play_load<R: Rendezvous, F: Files, S: Sink>(
     requires most { (machine_of (setting_of parts.old)).threads ≤ R.limit how.old }
     requires standing { Standing (setting_of parts.old) (state_of parts.old) }
     ensures does { Does
-        (record { stands = S.stands; faults = S.faults; lists = R.lists; held = HeldWhere (F.tells files.old) (F.holds files.old) })
+        (record {
+          stands = S.stands;
+          faults = S.faults;
+          lists = R.lists;
+          held = HeldWhere (F.tells files.old) (F.holds files.old);
+        })
         (setting_of parts.old) (Load force names.now beats.now)
         (record { state = state_of parts.old; files = F.faults files.old; runs = R.runs how.old; sink = out.old })
         (record { state = state_of parts.new; files = F.faults files.new; runs = R.runs how.new; sink = out.new })
@@ -139,7 +152,7 @@ pub fn play_load<R: Rendezvous, F: Files, S: Sink>(
     each_command_does_something();
     each_event_keeps_the_rule();
     the_verdict_is_the_first_that_holds();
-    tables_end();
+    // Read for its contract: every thread is on a core of the machine, and every core in a group.
     let _topology = parts.topology();
     let catalog = match set_out(
         alloc,
@@ -154,7 +167,6 @@ pub fn play_load<R: Rendezvous, F: Files, S: Sink>(
         Err(Stop::Answer(answer)) => return tell_load(out, names, answer),
         Err(Stop::NoMemory) => return Played::NoMemory,
     };
-    parts.plan(room.tables.places.as_slice(), &mut room.tables.plan);
     let Room {
         tables,
         outcome,

@@ -17,7 +17,9 @@ pub fn act(parts: &mut Parts, command: &Command) -> Acted
     requires plain { ReadsNoFile command.now }
     requires range { InRange (setting_of parts.old) command.now }
     requires standing { Standing (setting_of parts.old) (state_of parts.old) }
-    ensures step { (lists : Bool) → SessionStep lists (setting_of parts.old) (state_of parts.old) command.now (did_by [] result (state_of parts.new)) }
+    ensures step { (lists : Bool) →
+        SessionStep lists (setting_of parts.old) (state_of parts.old) command.now
+        (did_by [] result (state_of parts.new)) }
     ensures read { is_read_fault result.answer ≡ false }
     ensures setting { setting_of parts.new ≡ setting_of parts.old }
 {

@@ -7,7 +7,7 @@ ghost use Rattle.session_text.specs.Lines.{answer_line};
 ghost use Rattle.session_laws.specs.Standing.{Standing, InRange};
 ghost use Rattle.session_steps.specs.State.{machine_of};
 ghost use Rattle.session_steps.specs.Did.{ups_text};
-ghost use Rattle.session_steps.specs.Session.{names_in};
+ghost use Rattle.session_text.specs.Headings.{names_in};
 ghost use Rattle.session_steps.specs.Calls.{HeldWhere};
 ghost use Rattle.session_steps.specs.Played.{IsPlayed, SinkCause, is_read_fault};
 ghost use Rattle.session_steps.specs.Step.{SessionStep};
@@ -34,7 +34,8 @@ use update_reads::PIECE;
 
 /// Writes the threads that came up, and the answer of a command with these names of files.
 pub fn tell<S: Sink>(out: &mut S, names: &[Text], acted: &Acted) -> Played
-    ensures { Tells S.stands S.faults out.old out.new (ups_text acted.now.ups.items ++ answer_line names.now acted.now.answer) acted.now.answer result }
+    ensures { Tells S.stands S.faults out.old out.new
+        (ups_text acted.now.ups.items ++ answer_line names.now acted.now.answer) acted.now.answer result }
 {
     match acted.put(out, names) {
         Ok(()) => Played::Answered(acted.answer),
@@ -42,8 +43,8 @@ pub fn tell<S: Sink>(out: &mut S, names: &[Text], acted: &Acted) -> Played
     }
 }
 
-/// Writes the answer of a load that did not come to its rendezvous. Apart from its caller, since a function clears the room
-/// of all its locals when it begins, and the table of threads that came up is large.
+/// Writes the answer of a load that did not come to its rendezvous. Apart from its caller, since a function clears the
+/// room of all its locals when it begins, and the table of threads that came up is large.
 #[inline(never)]
 pub fn tell_load<S: Sink>(out: &mut S, names: &[Text], answer: LoadAnswer) -> Played
     ensures { (acted : Done) × (acted.ups.items ≡ []) × (acted.answer ≡ Load answer)
@@ -76,7 +77,12 @@ fn play_boot<R: Rendezvous, F: Files, S: Sink>(
     requires few { length names.now ≤ 16 }
     requires standing { Standing (setting_of parts.old) (state_of parts.old) }
     ensures does { Does
-        (record { stands = S.stands; faults = S.faults; lists = R.lists; held = HeldWhere (F.tells files.old) (F.holds files.old) })
+        (record {
+          stands = S.stands;
+          faults = S.faults;
+          lists = R.lists;
+          held = HeldWhere (F.tells files.old) (F.holds files.old);
+        })
         (setting_of parts.old) (Boot names.now)
         (record { state = state_of parts.old; files = F.faults files.old; runs = R.runs how.now; sink = out.old })
         (record { state = state_of parts.new; files = F.faults files.new; runs = R.runs how.now; sink = out.new })
@@ -87,6 +93,7 @@ fn play_boot<R: Rendezvous, F: Files, S: Sink>(
     ensures later { F.faults files.old ≤ F.faults files.new }
 {
     each_command_does_something();
+    // Read for its contract: every thread is on a core of the machine, and every core in a group.
     let _topology = parts.topology();
     match boot(alloc, parts, names, files, piece) {
         Ok(acted) => tell(out, names, &acted),
@@ -94,24 +101,28 @@ fn play_boot<R: Rendezvous, F: Files, S: Sink>(
     }
 }
 
-/// Does a command that reads no file, and writes its text. The heading was written. Apart from its caller as `tell_load` is.
+/// Does a command that reads no file, and writes its text. The heading was written. Apart from its caller as
+/// `tell_load` is.
 #[inline(never)]
 fn play_plain<S: Sink>(parts: &mut Parts, command: &Command, out: &mut S) -> Played
     requires plain { ReadsNoFile command.now }
     requires range { InRange (setting_of parts.old) command.now }
     requires standing { Standing (setting_of parts.old) (state_of parts.old) }
     ensures acted { (acted : Done) × (is_read_fault acted.answer ≡ false)
-        × ((lists : Bool) → SessionStep lists (setting_of parts.old) (state_of parts.old) command.now (did_by [] acted (state_of parts.new)))
-        × Tells S.stands S.faults out.old out.new (ups_text acted.ups.items ++ answer_line (names_in command.now) acted.answer)
+        × ((lists : Bool) →
+        SessionStep lists (setting_of parts.old) (state_of parts.old) command.now
+        (did_by [] acted (state_of parts.new)))
+        × Tells S.stands S.faults out.old out.new
+        (ups_text acted.ups.items ++ answer_line (names_in command.now) acted.answer)
         acted.answer result }
     ensures setting { setting_of parts.new ≡ setting_of parts.old }
 {
     tell(out, names_in(command), &act(parts, command))
 }
 
-/// Does a command, number `number` of its script, and writes its text. After a write fault in what a load shows, or for want
-/// of memory, the parts are as before; after a later write fault they are in the state after the command. The room is
-/// lent to a load.
+/// Does a command, number `number` of its script, and writes its text. After a write fault in what a load shows, or for
+/// want of memory, the parts are as before; after a later write fault they are in the state after the command. The room
+/// is lent to a load.
 pub fn play<R: Rendezvous, F: Files, S: Sink>(
     alloc: Global,
     parts: &mut Parts,
@@ -127,7 +138,12 @@ pub fn play<R: Rendezvous, F: Files, S: Sink>(
     requires most { (machine_of (setting_of parts.old)).threads ≤ R.limit how.old }
     requires standing { Standing (setting_of parts.old) (state_of parts.old) }
     ensures played { IsPlayed
-        (record { stands = S.stands; faults = S.faults; lists = R.lists; held = HeldWhere (F.tells files.old) (F.holds files.old) })
+        (record {
+          stands = S.stands;
+          faults = S.faults;
+          lists = R.lists;
+          held = HeldWhere (F.tells files.old) (F.holds files.old);
+        })
         (setting_of parts.old) number command.now
         (record { state = state_of parts.old; files = F.faults files.old; runs = R.runs how.old; sink = out.old })
         (record { state = state_of parts.new; files = F.faults files.new; runs = R.runs how.new; sink = out.new })
@@ -141,6 +157,7 @@ pub fn play<R: Rendezvous, F: Files, S: Sink>(
     ensures most_stays { R.limit how.new ≡ R.limit how.old }
 {
     each_command_does_something();
+    // Read for its contract: every thread is on a core of the machine, and every core in a group.
     let _topology = parts.topology();
     match put_heading(out, number, command) {
         Ok(()) => {}

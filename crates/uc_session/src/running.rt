@@ -9,9 +9,9 @@ ghost use Rattle.session_steps.specs.Whole.{IsPlayedThrough, SinkCauseAt};
 use crate::sessions::Session;
 use command_laws::each_command_does_something;
 use ctl_core::Rendezvous;
+use cut_laws::begun_commands_go_on;
 use script_text::Script;
 use session_laws::each_state_stands;
-use session_runs::begun_commands_go_on;
 use session_text::{CommandAnswer, LoadAnswer, Played, SessionAnswer};
 use std::alloc::Global;
 use uc_io::{Files, Sink};
@@ -19,7 +19,8 @@ use uc_topology::Topology;
 
 /// What a session answers that this answer of a command ends; nothing where the session goes on.
 fn end_by(answer: &CommandAnswer) -> Option<SessionAnswer>
-    ensures { MatchOption result (ends_session answer.now ≡ false) (λ end. (ends_session answer.now ≡ true) × (end ≡ answer_by (ended_by answer.now) false)) }
+    ensures { MatchOption result (ends_session answer.now ≡ false)
+        (λ end. (ends_session answer.now ≡ true) × (end ≡ answer_by (ended_by answer.now) false)) }
 {
     match answer {
         CommandAnswer::Load(LoadAnswer::ReadFault(_)) => Some(SessionAnswer::ReadFault),
@@ -38,9 +39,9 @@ fn all_done(before: bool, answer: &CommandAnswer) -> bool
 }
 
 /// Runs the commands of a script one after another, each as `Session::run` does, up to the last or to one that ends the
-/// session: one whose file is not read or is refused, or whose rendezvous leaves a thread halted or unfinished. The answer
-/// is the fault of the file or the thread that halted; else `Ended` where every command was done, and `Short` where one
-/// was not.
+/// session: one whose file is not read or is refused, or whose rendezvous leaves a thread halted or unfinished. The
+/// answer is the fault of the file or the thread that halted; else `Ended` where every command was done, and `Short`
+/// where one was not.
 ///
 /// A session that is cut short by a write fault, or for want of memory, has written a front of what a whole one writes.
 pub fn run_session<R: Rendezvous, F: Files, S: Sink>(
@@ -52,10 +53,17 @@ pub fn run_session<R: Rendezvous, F: Files, S: Sink>(
     out: &mut S,
 ) -> SessionAnswer
     requires most { length topology.now.stated.threads ≤ R.limit how.old }
-    requires within { IsWithin (record { threads = length topology.now.stated.threads; cores = length topology.now.stated.cores }) script.now }
+    requires within { IsWithin
+        (record { threads = length topology.now.stated.threads; cores = length topology.now.stated.cores }) script.now }
     ensures played { IsPlayedThrough
-        (record { stands = S.stands; faults = S.faults; lists = R.lists; held = HeldWhere (F.tells files.old) (F.holds files.old) })
-        (record { machine = topology.now; blocks = script.now.pool; patience = script.now.patience }) script.now.commands
+        (record {
+          stands = S.stands;
+          faults = S.faults;
+          lists = R.lists;
+          held = HeldWhere (F.tells files.old) (F.holds files.old);
+        })
+        (record { machine = topology.now; blocks = script.now.pool; patience = script.now.patience })
+        script.now.commands
         (record { files = F.faults files.old; runs = R.runs how.old; sink = out.old })
         (record { files = F.faults files.new; runs = R.runs how.new; sink = out.new })
         result }
@@ -69,6 +77,7 @@ pub fn run_session<R: Rendezvous, F: Files, S: Sink>(
     each_state_stands();
     each_command_does_something();
     begun_commands_go_on();
+    // Read for its contract: every thread is on a core of the machine, and every core in a group.
     let _threads = topology.threads();
     let Ok(mut session) = Session::new(alloc, topology, script.pool(), script.patience()) else {
         return SessionAnswer::NoMemory;

@@ -25,9 +25,9 @@ use uc_bytes::NoMemory;
 use uc_io::{Files, Sink};
 use uc_topology::Topology;
 
-/// A session on the machine that a topology states: the machine, the region of patches, and what each group caches. Between
-/// two commands its state stands: while power is on thread 0 is up, and the region holds just the patches that groups cache.
-/// It is large, so keep it in one place.
+/// A session on the machine that a topology states: the machine, the region of patches, and what each group caches.
+/// Between two commands its state stands: while power is on thread 0 is up, and the region holds just the patches that
+/// groups cache. It is large, so keep it in one place.
 #[derive(Drop)]
 pub struct Session {
     pub(crate) parts: Parts,
@@ -38,8 +38,8 @@ pub struct Session {
 impl Session {
     ghost use Rattle.uc_session.specs.Sessions.{setting_of, state_of};
 
-    /// A session before its first command, with a region of `pool` blocks, 1 to 65,536, in which a thread of a load waits for
-    /// `patience` polls.
+    /// A session before its first command, with a region of `pool` blocks, 1 to 65,536, in which a thread of a load
+    /// waits for `patience` polls.
     pub fn new(
         alloc: Global,
         topology: &Topology,
@@ -48,7 +48,8 @@ impl Session {
     ) -> Result<Session, NoMemory>
         requires some { 0 < pool }
         requires few { pool ≤ 65536 }
-        ensures setting { IfOk result (λ session. setting_of session ≡ record { machine = topology.now; blocks = pool; patience = patience }) }
+        ensures setting { IfOk result
+            (λ session. setting_of session ≡ record { machine = topology.now; blocks = pool; patience = patience }) }
         ensures opening { IfOk result (λ session. state_of session ≡ opening_state (setting_of session)) }
     {
         each_state_stands();
@@ -86,7 +87,8 @@ impl Session {
     pub fn pool(&self) -> &PatchPool
         ensures patches { patches_of result.now ≡ (state_of self.now).patches }
         ensures blocks { blocks_in result.now ≡ (setting_of self.now).blocks }
-        ensures just_cached { HoldsJustCached (group_count (setting_of self.now).machine.stated.cores) (state_of self.now).patches (state_of self.now).cached }
+        ensures just_cached { HoldsJustCached (group_count (setting_of self.now).machine.stated.cores)
+            (state_of self.now).patches (state_of self.now).cached }
     {
         self.parts.pool()
     }
@@ -99,10 +101,10 @@ impl Session {
         self.parts.cached(g)
     }
 
-    /// Runs a command, number `number` of its script, and writes its text. A file is unread exactly where the files' count of
-    /// faults rose, and a write fault comes only where the sink's did. After a write fault in the heading or in what a load
-    /// shows, and for want of memory, the session is as before; after a later write fault it is in the state after the
-    /// command.
+    /// Runs a command, number `number` of its script, and writes its text. A file is unread exactly where the files'
+    /// count of faults rose, and a write fault comes only where the sink's did. After a write fault in the heading or
+    /// in what a load shows, and for want of memory, the session is as before; after a later write fault it is in the
+    /// state after the command.
     pub fn run<R: Rendezvous, F: Files, S: Sink>(
         &mut self,
         alloc: Global,
@@ -116,7 +118,12 @@ impl Session {
         requires beats { BeatsInRange (machine_of (setting_of self.old)).threads command.now }
         requires most { (machine_of (setting_of self.old)).threads ≤ R.limit how.old }
         ensures played { IsPlayed
-            (record { stands = S.stands; faults = S.faults; lists = R.lists; held = HeldWhere (F.tells files.old) (F.holds files.old) })
+            (record {
+              stands = S.stands;
+              faults = S.faults;
+              lists = R.lists;
+              held = HeldWhere (F.tells files.old) (F.holds files.old);
+            })
             (setting_of self.old) number command.now
             (record { state = state_of self.old; files = F.faults files.old; runs = R.runs how.old; sink = out.old })
             (record { state = state_of self.new; files = F.faults files.new; runs = R.runs how.new; sink = out.new })
@@ -129,6 +136,7 @@ impl Session {
         ensures sink_cause { SinkCause result (S.faults out.old) (S.faults out.new) }
         ensures most_stays { R.limit how.new ≡ R.limit how.old }
     {
+        // Read for its contract: every thread is on a core of the machine, and every core in a group.
         let _topology = self.parts.topology();
         play(
             alloc,

@@ -7,6 +7,7 @@ ghost use Rattle.session_steps.specs.Calls.{HeldWhere};
 ghost use Rattle.session_parts.specs.Parts.{setting_of, state_of};
 ghost use Rattle.uc_session.specs.Loads.{ready_of, SetsOut, Stops, SetsOutFrom, StopsFrom};
 
+use ctl_words::tables_end;
 use session_parts::{LoadTables, Parts};
 use session_text::LoadAnswer;
 use std::alloc::Global;
@@ -22,8 +23,8 @@ pub enum Stop {
     NoMemory,
 }
 
-/// Reads the files of these names, 1 to 16, and puts what the groups are offered: the tables then say what and where. Where
-/// it stops the parts are as they were.
+/// Reads the files of these names, 1 to 16, and puts what the groups are offered: the tables then say what and where,
+/// and have the load's plan. Where it stops the parts are as they were.
 pub fn set_out<F: Files>(
     alloc: Global,
     parts: &mut Parts,
@@ -36,7 +37,7 @@ pub fn set_out<F: Files>(
     requires few { length names.now ≤ 16 }
     requires standing { Standing (setting_of parts.old) (state_of parts.old) }
     ensures answer { MatchResult result
-        (λ catalog. SetsOut (HeldWhere (F.tells files.old) (F.holds files.old)) (setting_of parts.old) force names.now
+        (λ catalog. SetsOut (HeldWhere (F.tells files.old) (F.holds files.old)) (setting_of parts.new) force names.now
         (record { state = state_of parts.old; files = F.faults files.old })
         (record { state = state_of parts.new; files = F.faults files.new }) (ready_of catalog tables.new))
         (Stops (HeldWhere (F.tells files.old) (F.holds files.old)) (setting_of parts.old) force names.now
@@ -47,6 +48,7 @@ pub fn set_out<F: Files>(
     ensures still { F.tells files.old → F.tells files.new }
     ensures later { F.faults files.old ≤ F.faults files.new }
 {
+    tables_end();
     if let Some(t) = parts.first_missing() {
         return Err(Stop::Answer(LoadAnswer::Busy(t)));
     }
@@ -71,7 +73,7 @@ fn something_offered(offers: &[Option<u32>]) -> bool
     offers.iter().any(|offer| offer.is_some())
 }
 
-/// Puts what the groups are offered of a catalogue's entries.
+/// Puts what the groups are offered of a catalogue's entries, and makes the plan.
 fn set_out_from(
     parts: &mut Parts,
     force: bool,
@@ -80,7 +82,11 @@ fn set_out_from(
 ) -> Result<(), Stop>
     requires standing { Standing (setting_of parts.old) (state_of parts.old) }
     requires keeps { IsTrue catalog.now.keeps }
-    ensures answer { MatchResult result (λ _. SetsOutFrom (setting_of parts.old) force catalog.now (state_of parts.old) (state_of parts.new) (ready_of catalog.now tables.new)) (λ stop. StopsFrom (setting_of parts.old) force catalog.now (state_of parts.old) stop × (state_of parts.new ≡ state_of parts.old)) }
+    ensures answer { MatchResult result
+        (λ _. SetsOutFrom (setting_of parts.new) force catalog.now (state_of parts.old) (state_of parts.new)
+        (ready_of catalog.now tables.new))
+        (λ stop. StopsFrom (setting_of parts.old) force catalog.now (state_of parts.old) stop
+        × (state_of parts.new ≡ state_of parts.old)) }
     ensures setting { setting_of parts.new ≡ setting_of parts.old }
 {
     parts.load_offers(catalog, force, &mut tables.cores, &mut tables.offers);
@@ -88,7 +94,9 @@ fn set_out_from(
         return Err(Stop::Answer(LoadAnswer::NotFound));
     }
     match parts.put_load(catalog, tables.offers.as_slice(), &mut tables.places) {
-        Ok(()) => Ok(()),
-        Err(full) => Err(Stop::Answer(LoadAnswer::PoolFull(full.needed))),
+        Ok(()) => {}
+        Err(full) => return Err(Stop::Answer(LoadAnswer::PoolFull(full.needed))),
     }
+    parts.plan(tables.places.as_slice(), &mut tables.plan);
+    Ok(())
 }

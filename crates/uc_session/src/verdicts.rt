@@ -113,10 +113,10 @@ fn first_that_holds(plan: &Plan, outcome: &Outcome) -> LoadAnswer
     }
 }
 
-/// What a load answers whose rendezvous came to an outcome, the first that holds: the lowest thread that halted; the lowest
-/// that is unfinished; that thread 0 gave up on the kicked, with how many kicks were taken back; the thread that gave up on
-/// those that did not arrive; the lowest primary whose group refused, as `Failed` where no thread left with success and else
-/// as `Incomplete`; and else `Done`.
+/// What a load answers whose rendezvous came to an outcome, the first that holds: the lowest thread that halted; the
+/// lowest that is unfinished; that thread 0 gave up on the kicked, with how many kicks were taken back; the thread that
+/// gave up on those that did not arrive; the lowest primary whose group refused, as `Failed` where no thread left with
+/// success and else as `Incomplete`; and else `Done`.
 pub fn verdict(plan: &Plan, outcome: &Outcome) -> LoadAnswer
     requires ends { length outcome.now.ends.items ≡ plan.now.threads }
     requires decide { outcome.now.decide < 3 + plan.now.threads }

@@ -1,5 +1,5 @@
 use Rattle.std.proofs.Common.{◌<◌, inl, ℕ, List, length, refl, subst}
-use Rattle.script_report.specs.declared.TheConstants.{SCRIPT_LIMIT}
+use Rattle.script_text.specs.declared.TheConstants.{SCRIPT_LIMIT}
 use Rattle.file_reads.proofs.Accepted.{past_limit}
 use Rattle.uc_cli.proofs.reading.read_commands.Goals as goal
 

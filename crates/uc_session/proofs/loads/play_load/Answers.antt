@@ -71,148 +71,87 @@ returns-in-Err-NoMemory-clause-does g c =
 -- ---- one that does
 
 pub offer_and_run-requires-clause-sound : goal.offer_and_run-requires-clause-sound
-offer_and_run-requires-clause-sound g c =
-    let held = HeldWhere (g.F.Pieces.tells c.args.files.now) (g.F.Files.holds c.args.files.now) in
-    let before : Stage = record { state = state_of c.args.parts.now; files = g.F.Pieces.faults c.args.files.now } in
-    let now : Stage = record { state = state_of c.set_out.new.parts; files = g.F.Pieces.faults c.set_out.new.files } in
-    let known =
-    loading.facts held (setting_of c.set_out.new.parts) (setting_of c.args.parts.now) c.args.force c.args.names.now before now (ready_of c.in-Ok.catalog c.set_out.new.tables) c.plan.new.plan
-    c.as_slice.result.now c.in-Ok.ensures.setting c.as_slice.ensures.value c.in-Ok.ensures.answer c.requires.standing c.plan.ensures.plan c.plan.ensures.sound
-    c.tables_end.ensures in
-    loading.is_sound held (setting_of c.set_out.new.parts) c.args.force c.args.names.now before now (ready_of c.in-Ok.catalog c.set_out.new.tables) c.plan.new.plan known
+offer_and_run-requires-clause-sound g c = c.in-Ok.ensures.answer.sound
 
 pub offer_and_run-requires-clause-few : goal.offer_and_run-requires-clause-few
 offer_and_run-requires-clause-few g c =
-    let held = HeldWhere (g.F.Pieces.tells c.args.files.now) (g.F.Files.holds c.args.files.now) in
-    let before : Stage = record { state = state_of c.args.parts.now; files = g.F.Pieces.faults c.args.files.now } in
-    let now : Stage = record { state = state_of c.set_out.new.parts; files = g.F.Pieces.faults c.set_out.new.files } in
-    let known =
-    loading.facts held (setting_of c.set_out.new.parts) (setting_of c.args.parts.now) c.args.force c.args.names.now before now (ready_of c.in-Ok.catalog c.set_out.new.tables) c.plan.new.plan
-    c.as_slice.result.now c.in-Ok.ensures.setting c.as_slice.ensures.value c.in-Ok.ensures.answer c.requires.standing c.plan.ensures.plan c.plan.ensures.sound
-    c.tables_end.ensures in
+    let sets = c.in-Ok.ensures.answer in
     subst (λ (n : ℕ). n ≤ g.R.Rendezvous.limit c.args.how.now)
-    (ap (λ (s : Setting). (machine_of s).threads) (sym c.in-Ok.ensures.setting) ∙ sym (loading.threads_are held (setting_of c.set_out.new.parts) c.args.force c.args.names.now before now (ready_of c.in-Ok.catalog c.set_out.new.tables) c.plan.new.plan known))
+    (ap (λ (s : Setting). (machine_of s).threads) (sym c.in-Ok.ensures.setting) ∙ sym (loading.threads_are _ _ _ _ _ _ _ sets))
     c.requires.most
 
 pub offer_and_run-requires-clause-in_range : goal.offer_and_run-requires-clause-in_range
 offer_and_run-requires-clause-in_range g c =
-    let held = HeldWhere (g.F.Pieces.tells c.args.files.now) (g.F.Files.holds c.args.files.now) in
-    let before : Stage = record { state = state_of c.args.parts.now; files = g.F.Pieces.faults c.args.files.now } in
-    let now : Stage = record { state = state_of c.set_out.new.parts; files = g.F.Pieces.faults c.set_out.new.files } in
-    let known =
-    loading.facts held (setting_of c.set_out.new.parts) (setting_of c.args.parts.now) c.args.force c.args.names.now before now (ready_of c.in-Ok.catalog c.set_out.new.tables) c.plan.new.plan
-    c.as_slice.result.now c.in-Ok.ensures.setting c.as_slice.ensures.value c.in-Ok.ensures.answer c.requires.standing c.plan.ensures.plan c.plan.ensures.sound
-    c.tables_end.ensures in
+    let sets = c.in-Ok.ensures.answer in
     subst (λ (n : ℕ). All (BeatInRange n) c.args.beats.now)
-    (ap (λ (s : Setting). (machine_of s).threads) (sym c.in-Ok.ensures.setting) ∙ sym (loading.threads_are held (setting_of c.set_out.new.parts) c.args.force c.args.names.now before now (ready_of c.in-Ok.catalog c.set_out.new.tables) c.plan.new.plan known))
+    (ap (λ (s : Setting). (machine_of s).threads) (sym c.in-Ok.ensures.setting) ∙ sym (loading.threads_are _ _ _ _ _ _ _ sets))
     c.requires.beats
 
 pub returns-in-Err-clause-does : goal.returns-in-Err-clause-does
 returns-in-Err-clause-does g c =
     let held = HeldWhere (g.F.Pieces.tells c.args.files.now) (g.F.Files.holds c.args.files.now) in
-    let before : Stage = record { state = state_of c.args.parts.now; files = g.F.Pieces.faults c.args.files.now } in
-    let now : Stage = record { state = state_of c.set_out.new.parts; files = g.F.Pieces.faults c.set_out.new.files } in
-    let known =
-    loading.facts held (setting_of c.set_out.new.parts) (setting_of c.args.parts.now) c.args.force c.args.names.now before now (ready_of c.in-Ok.catalog c.set_out.new.tables) c.plan.new.plan
-    c.as_slice.result.now c.in-Ok.ensures.setting c.as_slice.ensures.value c.in-Ok.ensures.answer c.requires.standing c.plan.ensures.plan c.plan.ensures.sound
-    c.tables_end.ensures in
+    let sets = c.in-Ok.ensures.answer in
     let one = LoadCommand c.args.force c.args.names.now c.args.beats.now in
     let outside : Outside _ =
     record { stands = g.S.Sink.stands; faults = g.S.Sink.faults; lists = g.R.Rendezvous.lists; held = held } in
     let found : Situation _ =
     record { state = state_of c.args.parts.now; files = g.F.Pieces.faults c.args.files.now; runs = g.R.Rendezvous.runs c.args.how.now; sink = c.args.out.now } in
     let came =
-    loading.stopped held (setting_of c.set_out.new.parts) c.args.force c.args.names.now before now (ready_of c.in-Ok.catalog c.set_out.new.tables) c.plan.new.plan known
+    loading.stopped _ _ _ _ _ _ _ sets
     (record { stands = g.S.Sink.stands; faults = g.S.Sink.faults; lists = g.R.Rendezvous.lists }) c.args.beats.now
     (record { runs = g.R.Rendezvous.runs c.args.how.now; sink = c.args.out.now }) (g.R.Rendezvous.runs c.offer_and_run.new.how) c.offer_and_run.new.out c.the_verdict_is_the_first_that_holds.ensures.holds c.in-Err.answer
     (λ s state p is_machine is_plan. c.in-Err.ensures.meets s state p (is_machine ∙ sym c.topology.ensures.machine) is_plan)
     (state_of c.take_back.new.self)
     (c.take_back.ensures.back (setting_of c.set_out.new.parts) _ _ (state_of c.args.parts.now)
     (subst (λ (all : List (Option PatchId)). IsPut (setting_of c.set_out.new.parts) c.in-Ok.catalog.entries c.set_out.new.tables.offers.items (state_of c.args.parts.now) (state_of c.set_out.new.parts) all)
-    (sym c.as_slice-in-Err.ensures.value) known.sets.from.put)) in
+    (sym c.as_slice.ensures.value) sets.from.put)) in
     subst (λ (s : Setting). Does outside s one found (record { state = state_of c.take_back.new.self; files = g.F.Pieces.faults c.set_out.new.files; runs = g.R.Rendezvous.runs c.offer_and_run.new.how; sink = c.offer_and_run.new.out }) c.cut_short.result)
     c.in-Ok.ensures.setting (subst (λ (come : Played). Does outside (setting_of c.set_out.new.parts) one found (record { state = state_of c.take_back.new.self; files = g.F.Pieces.faults c.set_out.new.files; runs = g.R.Rendezvous.runs c.offer_and_run.new.how; sink = c.offer_and_run.new.out }) come)
     (sym c.cut_short.ensures) came)
 
 pub finish_load-requires-clause-power : goal.finish_load-requires-clause-power
 finish_load-requires-clause-power g c =
-    let held = HeldWhere (g.F.Pieces.tells c.args.files.now) (g.F.Files.holds c.args.files.now) in
-    let before : Stage = record { state = state_of c.args.parts.now; files = g.F.Pieces.faults c.args.files.now } in
-    let now : Stage = record { state = state_of c.set_out.new.parts; files = g.F.Pieces.faults c.set_out.new.files } in
-    let known =
-    loading.facts held (setting_of c.set_out.new.parts) (setting_of c.args.parts.now) c.args.force c.args.names.now before now (ready_of c.in-Ok.catalog c.set_out.new.tables) c.plan.new.plan
-    c.as_slice.result.now c.in-Ok.ensures.setting c.as_slice.ensures.value c.in-Ok.ensures.answer c.requires.standing c.plan.ensures.plan c.plan.ensures.sound
-    c.tables_end.ensures in
-    loading.power_is_on held (setting_of c.set_out.new.parts) c.args.force c.args.names.now before now (ready_of c.in-Ok.catalog c.set_out.new.tables) c.plan.new.plan known
+    let sets = c.in-Ok.ensures.answer in
+    loading.power_is_on _ _ _ _ _ _ _ sets
 
 pub finish_load-requires-clause-revs : goal.finish_load-requires-clause-revs
 finish_load-requires-clause-revs g c =
-    let held = HeldWhere (g.F.Pieces.tells c.args.files.now) (g.F.Files.holds c.args.files.now) in
-    let before : Stage = record { state = state_of c.args.parts.now; files = g.F.Pieces.faults c.args.files.now } in
-    let now : Stage = record { state = state_of c.set_out.new.parts; files = g.F.Pieces.faults c.set_out.new.files } in
-    let known =
-    loading.facts held (setting_of c.set_out.new.parts) (setting_of c.args.parts.now) c.args.force c.args.names.now before now (ready_of c.in-Ok.catalog c.set_out.new.tables) c.plan.new.plan
-    c.as_slice.result.now c.in-Ok.ensures.setting c.as_slice.ensures.value c.in-Ok.ensures.answer c.requires.standing c.plan.ensures.plan c.plan.ensures.sound
-    c.tables_end.ensures in
-    ap length c.as_slice-3.ensures.value ∙ loading.revs_count held (setting_of c.set_out.new.parts) c.args.force c.args.names.now before now (ready_of c.in-Ok.catalog c.set_out.new.tables) c.plan.new.plan known
+    let sets = c.in-Ok.ensures.answer in
+    ap length c.as_slice-3.ensures.value ∙ loading.revs_count _ _ _ _ _ _ _ sets
     (record { stands = g.S.Sink.stands; faults = g.S.Sink.faults; lists = g.R.Rendezvous.lists }) c.args.beats.now
     (record { runs = g.R.Rendezvous.runs c.args.how.now; sink = c.args.out.now }) (g.R.Rendezvous.runs c.offer_and_run.new.how) c.offer_and_run.new.out c.each_event_keeps_the_rule.ensures.event c.each_event_keeps_the_rule.ensures.opening c.offer_and_run.new.outcome
     (λ s state p is_machine is_plan. c.in-Ok-offer_and_run.ensures.meets s state p (is_machine ∙ sym c.topology.ensures.machine) is_plan)
 
 pub finish_load-requires-clause-no_lower : goal.finish_load-requires-clause-no_lower
 finish_load-requires-clause-no_lower g c =
-    let held = HeldWhere (g.F.Pieces.tells c.args.files.now) (g.F.Files.holds c.args.files.now) in
-    let before : Stage = record { state = state_of c.args.parts.now; files = g.F.Pieces.faults c.args.files.now } in
-    let now : Stage = record { state = state_of c.set_out.new.parts; files = g.F.Pieces.faults c.set_out.new.files } in
-    let known =
-    loading.facts held (setting_of c.set_out.new.parts) (setting_of c.args.parts.now) c.args.force c.args.names.now before now (ready_of c.in-Ok.catalog c.set_out.new.tables) c.plan.new.plan
-    c.as_slice.result.now c.in-Ok.ensures.setting c.as_slice.ensures.value c.in-Ok.ensures.answer c.requires.standing c.plan.ensures.plan c.plan.ensures.sound
-    c.tables_end.ensures in
+    let sets = c.in-Ok.ensures.answer in
     λ group below.
     subst (λ (revs : List ℕ). (state_of c.set_out.new.parts).hardware.rev group ≤ slice_index revs group) (sym c.as_slice-3.ensures.value)
-    (loading.no_lower held (setting_of c.set_out.new.parts) c.args.force c.args.names.now before now (ready_of c.in-Ok.catalog c.set_out.new.tables) c.plan.new.plan known
+    (loading.no_lower _ _ _ _ _ _ _ sets
     (record { stands = g.S.Sink.stands; faults = g.S.Sink.faults; lists = g.R.Rendezvous.lists }) c.args.beats.now
     (record { runs = g.R.Rendezvous.runs c.args.how.now; sink = c.args.out.now }) (g.R.Rendezvous.runs c.offer_and_run.new.how) c.offer_and_run.new.out c.each_event_keeps_the_rule.ensures.event c.each_event_keeps_the_rule.ensures.opening c.offer_and_run.new.outcome
     (λ s state p is_machine is_plan. c.in-Ok-offer_and_run.ensures.meets s state p (is_machine ∙ sym c.topology.ensures.machine) is_plan) g.met.R.Rendezvous.never_falls group below)
 
 pub verdict-requires-clause-ends : goal.verdict-requires-clause-ends
 verdict-requires-clause-ends g c =
-    let held = HeldWhere (g.F.Pieces.tells c.args.files.now) (g.F.Files.holds c.args.files.now) in
-    let before : Stage = record { state = state_of c.args.parts.now; files = g.F.Pieces.faults c.args.files.now } in
-    let now : Stage = record { state = state_of c.set_out.new.parts; files = g.F.Pieces.faults c.set_out.new.files } in
-    let known =
-    loading.facts held (setting_of c.set_out.new.parts) (setting_of c.args.parts.now) c.args.force c.args.names.now before now (ready_of c.in-Ok.catalog c.set_out.new.tables) c.plan.new.plan
-    c.as_slice.result.now c.in-Ok.ensures.setting c.as_slice.ensures.value c.in-Ok.ensures.answer c.requires.standing c.plan.ensures.plan c.plan.ensures.sound
-    c.tables_end.ensures in
-    loading.ends_count held (setting_of c.set_out.new.parts) c.args.force c.args.names.now before now (ready_of c.in-Ok.catalog c.set_out.new.tables) c.plan.new.plan known
+    let sets = c.in-Ok.ensures.answer in
+    loading.ends_count _ _ _ _ _ _ _ sets
     (record { stands = g.S.Sink.stands; faults = g.S.Sink.faults; lists = g.R.Rendezvous.lists }) c.args.beats.now
     (record { runs = g.R.Rendezvous.runs c.args.how.now; sink = c.args.out.now }) (g.R.Rendezvous.runs c.offer_and_run.new.how) c.offer_and_run.new.out c.each_event_keeps_the_rule.ensures.event c.each_event_keeps_the_rule.ensures.opening c.offer_and_run.new.outcome
     (λ s state p is_machine is_plan. c.in-Ok-offer_and_run.ensures.meets s state p (is_machine ∙ sym c.topology.ensures.machine) is_plan)
 
 pub verdict-requires-clause-decide : goal.verdict-requires-clause-decide
 verdict-requires-clause-decide g c =
-    let held = HeldWhere (g.F.Pieces.tells c.args.files.now) (g.F.Files.holds c.args.files.now) in
-    let before : Stage = record { state = state_of c.args.parts.now; files = g.F.Pieces.faults c.args.files.now } in
-    let now : Stage = record { state = state_of c.set_out.new.parts; files = g.F.Pieces.faults c.set_out.new.files } in
-    let known =
-    loading.facts held (setting_of c.set_out.new.parts) (setting_of c.args.parts.now) c.args.force c.args.names.now before now (ready_of c.in-Ok.catalog c.set_out.new.tables) c.plan.new.plan
-    c.as_slice.result.now c.in-Ok.ensures.setting c.as_slice.ensures.value c.in-Ok.ensures.answer c.requires.standing c.plan.ensures.plan c.plan.ensures.sound
-    c.tables_end.ensures in
-    loading.decided held (setting_of c.set_out.new.parts) c.args.force c.args.names.now before now (ready_of c.in-Ok.catalog c.set_out.new.tables) c.plan.new.plan known
+    let sets = c.in-Ok.ensures.answer in
+    loading.decided _ _ _ _ _ _ _ sets
     (record { stands = g.S.Sink.stands; faults = g.S.Sink.faults; lists = g.R.Rendezvous.lists }) c.args.beats.now
     (record { runs = g.R.Rendezvous.runs c.args.how.now; sink = c.args.out.now }) (g.R.Rendezvous.runs c.offer_and_run.new.how) c.offer_and_run.new.out c.each_event_keeps_the_rule.ensures.event c.each_event_keeps_the_rule.ensures.opening c.offer_and_run.new.outcome
     (λ s state p is_machine is_plan. c.in-Ok-offer_and_run.ensures.meets s state p (is_machine ∙ sym c.topology.ensures.machine) is_plan)
 
 pub put_end-requires : goal.put_end-requires
 put_end-requires g c =
-    let held = HeldWhere (g.F.Pieces.tells c.args.files.now) (g.F.Files.holds c.args.files.now) in
-    let before : Stage = record { state = state_of c.args.parts.now; files = g.F.Pieces.faults c.args.files.now } in
-    let now : Stage = record { state = state_of c.set_out.new.parts; files = g.F.Pieces.faults c.set_out.new.files } in
-    let known =
-    loading.facts held (setting_of c.set_out.new.parts) (setting_of c.args.parts.now) c.args.force c.args.names.now before now (ready_of c.in-Ok.catalog c.set_out.new.tables) c.plan.new.plan
-    c.as_slice.result.now c.in-Ok.ensures.setting c.as_slice.ensures.value c.in-Ok.ensures.answer c.requires.standing c.plan.ensures.plan c.plan.ensures.sound
-    c.tables_end.ensures in
-    loading.revs_count held (setting_of c.set_out.new.parts) c.args.force c.args.names.now before now (ready_of c.in-Ok.catalog c.set_out.new.tables) c.plan.new.plan known
+    let sets = c.in-Ok.ensures.answer in
+    loading.revs_count _ _ _ _ _ _ _ sets
     (record { stands = g.S.Sink.stands; faults = g.S.Sink.faults; lists = g.R.Rendezvous.lists }) c.args.beats.now
     (record { runs = g.R.Rendezvous.runs c.args.how.now; sink = c.args.out.now }) (g.R.Rendezvous.runs c.offer_and_run.new.how) c.offer_and_run.new.out c.each_event_keeps_the_rule.ensures.event c.each_event_keeps_the_rule.ensures.opening c.offer_and_run.new.outcome
     (λ s state p is_machine is_plan. c.in-Ok-offer_and_run.ensures.meets s state p (is_machine ∙ sym c.topology.ensures.machine) is_plan)
@@ -222,21 +161,16 @@ put_end-requires g c =
 pub returns-in-Ok-put_end-clause-does : goal.returns-in-Ok-put_end-clause-does
 returns-in-Ok-put_end-clause-does g c =
     let held = HeldWhere (g.F.Pieces.tells c.args.files.now) (g.F.Files.holds c.args.files.now) in
-    let before : Stage = record { state = state_of c.args.parts.now; files = g.F.Pieces.faults c.args.files.now } in
-    let now : Stage = record { state = state_of c.set_out.new.parts; files = g.F.Pieces.faults c.set_out.new.files } in
-    let known =
-    loading.facts held (setting_of c.set_out.new.parts) (setting_of c.args.parts.now) c.args.force c.args.names.now before now (ready_of c.in-Ok.catalog c.set_out.new.tables) c.plan.new.plan
-    c.as_slice.result.now c.in-Ok.ensures.setting c.as_slice.ensures.value c.in-Ok.ensures.answer c.requires.standing c.plan.ensures.plan c.plan.ensures.sound
-    c.tables_end.ensures in
+    let sets = c.in-Ok.ensures.answer in
     let same = c.command_answer-answer.ensures ∙ c.verdict.ensures.is_answer in
-    let made = known.plan_is c.in-Ok.catalog.entries c.set_out.new.tables.offers.items (state_of c.args.parts.now) known.sets.from.put in
+    let made = sets.from.plan_is in
     let kept =
     subst
-    (λ (all : List (Option PatchId)). (entries : List Entry) (offers : List (Option ℕ)) (before : State) (outcome : Outcome) (put : IsPut (setting_of c.set_out.new.parts) entries offers before (state_of c.set_out.new.parts) all) → plan_of c.plan.new.plan ≡ load_plan (setting_of c.set_out.new.parts) before put.puts offers → outcome.revs ≡ c.as_slice-3.result.now → state_of c.finish_load.new.self ≡ loaded (setting_of c.set_out.new.parts) before put.puts offers (plan_of c.plan.new.plan) outcome)
+    (λ (all : List (Option PatchId)). (entries : List Entry) (offers : List (Option ℕ)) (before : State) (outcome : Outcome) (put : IsPut (setting_of c.set_out.new.parts) entries offers before (state_of c.set_out.new.parts) all) → plan_of c.set_out.new.tables.plan ≡ load_plan (setting_of c.set_out.new.parts) before put.puts offers → outcome.revs ≡ c.as_slice-3.result.now → state_of c.finish_load.new.self ≡ loaded (setting_of c.set_out.new.parts) before put.puts offers (plan_of c.set_out.new.tables.plan) outcome)
     c.as_slice-2.ensures.value c.finish_load.ensures.kept in
     let wrote =
-    subst (λ (a : CommandAnswer). Writes {E = SinkFailed} g.S.Sink.stands g.S.Sink.faults c.offer_and_run.new.out c.put_end.new.out (results_text (setting_of c.set_out.new.parts) (state_of c.args.parts.now) (plan_of c.plan.new.plan) (outcome_of c.offer_and_run.new.outcome) ++ answer_line c.args.names.now a) (Ok tt)) same
-    (c.in-Ok-put_end.ensures (setting_of c.set_out.new.parts) (state_of c.args.parts.now) known.sets.from.put.puts c.set_out.new.tables.offers.items
+    subst (λ (a : CommandAnswer). Writes {E = SinkFailed} g.S.Sink.stands g.S.Sink.faults c.offer_and_run.new.out c.put_end.new.out (results_text (setting_of c.set_out.new.parts) (state_of c.args.parts.now) (plan_of c.set_out.new.tables.plan) (outcome_of c.offer_and_run.new.outcome) ++ answer_line c.args.names.now a) (Ok tt)) same
+    (c.in-Ok-put_end.ensures (setting_of c.set_out.new.parts) (state_of c.args.parts.now) sets.from.put.puts c.set_out.new.tables.offers.items
     (sym (c.topology-2.ensures.machine ∙ ap (λ (s : Setting). s.machine) c.finish_load.ensures.setting)) made) in
     let one = LoadCommand c.args.force c.args.names.now c.args.beats.now in
     let outside : Outside _ =
@@ -244,12 +178,12 @@ returns-in-Ok-put_end-clause-does g c =
     let found : Situation _ =
     record { state = state_of c.args.parts.now; files = g.F.Pieces.faults c.args.files.now; runs = g.R.Rendezvous.runs c.args.how.now; sink = c.args.out.now } in
     let came =
-    loading.finished held (setting_of c.set_out.new.parts) c.args.force c.args.names.now before now (ready_of c.in-Ok.catalog c.set_out.new.tables) c.plan.new.plan known
+    loading.finished _ _ _ _ _ _ _ sets
     (record { stands = g.S.Sink.stands; faults = g.S.Sink.faults; lists = g.R.Rendezvous.lists }) c.args.beats.now
     (record { runs = g.R.Rendezvous.runs c.args.how.now; sink = c.args.out.now }) (g.R.Rendezvous.runs c.offer_and_run.new.how) c.offer_and_run.new.out c.each_event_keeps_the_rule.ensures.event c.each_event_keeps_the_rule.ensures.opening c.offer_and_run.new.outcome
     (λ s state p is_machine is_plan. c.in-Ok-offer_and_run.ensures.meets s state p (is_machine ∙ sym c.topology.ensures.machine) is_plan) {E = SinkFailed}
     c.verdict.ensures.verdict c.put_end.new.out (Ok tt) (state_of c.finish_load.new.self) c.verdict.ensures.holds
-    (kept c.in-Ok.catalog.entries c.set_out.new.tables.offers.items (state_of c.args.parts.now) (outcome_of c.offer_and_run.new.outcome) known.sets.from.put made (sym c.as_slice-3.ensures.value))
+    (kept c.in-Ok.catalog.entries c.set_out.new.tables.offers.items (state_of c.args.parts.now) (outcome_of c.offer_and_run.new.outcome) sets.from.put made (sym c.as_slice-3.ensures.value))
     wrote in
     subst (λ (s : Setting). Does outside s one found (record { state = state_of c.finish_load.new.self; files = g.F.Pieces.faults c.set_out.new.files; runs = g.R.Rendezvous.runs c.offer_and_run.new.how; sink = c.put_end.new.out }) (Answered c.command_answer-answer.result))
     c.in-Ok.ensures.setting (subst (λ (a : CommandAnswer). Does outside (setting_of c.set_out.new.parts) one found (record { state = state_of c.finish_load.new.self; files = g.F.Pieces.faults c.set_out.new.files; runs = g.R.Rendezvous.runs c.offer_and_run.new.how; sink = c.put_end.new.out }) (Answered a)) (sym same) came)
@@ -257,21 +191,16 @@ returns-in-Ok-put_end-clause-does g c =
 pub returns-clause-does : goal.returns-clause-does
 returns-clause-does g c =
     let held = HeldWhere (g.F.Pieces.tells c.args.files.now) (g.F.Files.holds c.args.files.now) in
-    let before : Stage = record { state = state_of c.args.parts.now; files = g.F.Pieces.faults c.args.files.now } in
-    let now : Stage = record { state = state_of c.set_out.new.parts; files = g.F.Pieces.faults c.set_out.new.files } in
-    let known =
-    loading.facts held (setting_of c.set_out.new.parts) (setting_of c.args.parts.now) c.args.force c.args.names.now before now (ready_of c.in-Ok.catalog c.set_out.new.tables) c.plan.new.plan
-    c.as_slice.result.now c.in-Ok.ensures.setting c.as_slice.ensures.value c.in-Ok.ensures.answer c.requires.standing c.plan.ensures.plan c.plan.ensures.sound
-    c.tables_end.ensures in
+    let sets = c.in-Ok.ensures.answer in
     let same = c.command_answer-answer.ensures ∙ c.verdict.ensures.is_answer in
-    let made = known.plan_is c.in-Ok.catalog.entries c.set_out.new.tables.offers.items (state_of c.args.parts.now) known.sets.from.put in
+    let made = sets.from.plan_is in
     let kept =
     subst
-    (λ (all : List (Option PatchId)). (entries : List Entry) (offers : List (Option ℕ)) (before : State) (outcome : Outcome) (put : IsPut (setting_of c.set_out.new.parts) entries offers before (state_of c.set_out.new.parts) all) → plan_of c.plan.new.plan ≡ load_plan (setting_of c.set_out.new.parts) before put.puts offers → outcome.revs ≡ c.as_slice-3.result.now → state_of c.finish_load.new.self ≡ loaded (setting_of c.set_out.new.parts) before put.puts offers (plan_of c.plan.new.plan) outcome)
+    (λ (all : List (Option PatchId)). (entries : List Entry) (offers : List (Option ℕ)) (before : State) (outcome : Outcome) (put : IsPut (setting_of c.set_out.new.parts) entries offers before (state_of c.set_out.new.parts) all) → plan_of c.set_out.new.tables.plan ≡ load_plan (setting_of c.set_out.new.parts) before put.puts offers → outcome.revs ≡ c.as_slice-3.result.now → state_of c.finish_load.new.self ≡ loaded (setting_of c.set_out.new.parts) before put.puts offers (plan_of c.set_out.new.tables.plan) outcome)
     c.as_slice-2.ensures.value c.finish_load.ensures.kept in
     let wrote =
-    subst (λ (a : CommandAnswer). Writes {E = SinkFailed} g.S.Sink.stands g.S.Sink.faults c.offer_and_run.new.out c.put_end.new.out (results_text (setting_of c.set_out.new.parts) (state_of c.args.parts.now) (plan_of c.plan.new.plan) (outcome_of c.offer_and_run.new.outcome) ++ answer_line c.args.names.now a) (Err c.in-Err-put_end.field-0)) same
-    (c.in-Err-put_end.ensures (setting_of c.set_out.new.parts) (state_of c.args.parts.now) known.sets.from.put.puts c.set_out.new.tables.offers.items
+    subst (λ (a : CommandAnswer). Writes {E = SinkFailed} g.S.Sink.stands g.S.Sink.faults c.offer_and_run.new.out c.put_end.new.out (results_text (setting_of c.set_out.new.parts) (state_of c.args.parts.now) (plan_of c.set_out.new.tables.plan) (outcome_of c.offer_and_run.new.outcome) ++ answer_line c.args.names.now a) (Err c.in-Err-put_end.field-0)) same
+    (c.in-Err-put_end.ensures (setting_of c.set_out.new.parts) (state_of c.args.parts.now) sets.from.put.puts c.set_out.new.tables.offers.items
     (sym (c.topology-2.ensures.machine ∙ ap (λ (s : Setting). s.machine) c.finish_load.ensures.setting)) made) in
     let one = LoadCommand c.args.force c.args.names.now c.args.beats.now in
     let outside : Outside _ =
@@ -279,12 +208,12 @@ returns-clause-does g c =
     let found : Situation _ =
     record { state = state_of c.args.parts.now; files = g.F.Pieces.faults c.args.files.now; runs = g.R.Rendezvous.runs c.args.how.now; sink = c.args.out.now } in
     let came =
-    loading.finished held (setting_of c.set_out.new.parts) c.args.force c.args.names.now before now (ready_of c.in-Ok.catalog c.set_out.new.tables) c.plan.new.plan known
+    loading.finished _ _ _ _ _ _ _ sets
     (record { stands = g.S.Sink.stands; faults = g.S.Sink.faults; lists = g.R.Rendezvous.lists }) c.args.beats.now
     (record { runs = g.R.Rendezvous.runs c.args.how.now; sink = c.args.out.now }) (g.R.Rendezvous.runs c.offer_and_run.new.how) c.offer_and_run.new.out c.each_event_keeps_the_rule.ensures.event c.each_event_keeps_the_rule.ensures.opening c.offer_and_run.new.outcome
     (λ s state p is_machine is_plan. c.in-Ok-offer_and_run.ensures.meets s state p (is_machine ∙ sym c.topology.ensures.machine) is_plan) {E = SinkFailed}
     c.verdict.ensures.verdict c.put_end.new.out (Err c.in-Err-put_end.field-0) (state_of c.finish_load.new.self) c.verdict.ensures.holds
-    (kept c.in-Ok.catalog.entries c.set_out.new.tables.offers.items (state_of c.args.parts.now) (outcome_of c.offer_and_run.new.outcome) known.sets.from.put made (sym c.as_slice-3.ensures.value))
+    (kept c.in-Ok.catalog.entries c.set_out.new.tables.offers.items (state_of c.args.parts.now) (outcome_of c.offer_and_run.new.outcome) sets.from.put made (sym c.as_slice-3.ensures.value))
     wrote in
     subst (λ (s : Setting). Does outside s one found (record { state = state_of c.finish_load.new.self; files = g.F.Pieces.faults c.set_out.new.files; runs = g.R.Rendezvous.runs c.offer_and_run.new.how; sink = c.put_end.new.out }) WriteFault)
     c.in-Ok.ensures.setting came

@@ -8,9 +8,9 @@ use Rattle.session_text.specs.declared.answers.SessionAnswer.{SessionAnswer}
 use Rattle.session_steps.specs.Session.{short_unless}
 use Rattle.session_steps.specs.Whole.{SinkCauseAt}
 use Rattle.session_laws.specs.Standing.{InRange}
-use Rattle.session_runs.specs.SoFar.{PlayedSoFar}
-use Rattle.session_runs.proofs.Within.{limits_of, all_in_range}
-use Rattle.session_runs.proofs.Played.{before_the_first, nothing_played}
+use Rattle.cut_laws.specs.SoFar.{PlayedSoFar}
+use Rattle.cut_laws.proofs.Within.{limits_of, all_in_range}
+use Rattle.cut_laws.proofs.Played.{before_the_first, nothing_played}
 use Rattle.uc_session.specs.Sessions.{setting_of, state_of}
 use Rattle.uc_session.proofs.InTurn.{setting_is, opening_is, at_place, range_now, beats_now, rose_late, one_more_at, last_at, cut_at, all_at, still_at}
 use Rattle.uc_session.proofs.running.run_session.Goals as goal

@@ -1,6 +1,6 @@
 use Rattle.std.proofs.Common.{◌≡◌, ◌≤◌, take}
 use Rattle.session_steps.specs.Calls.{HeldWhere}
-use Rattle.session_runs.specs.SoFar.{PlayedSoFar}
+use Rattle.cut_laws.specs.SoFar.{PlayedSoFar}
 use Rattle.uc_session.specs.Sessions.{setting_of, state_of}
 use Rattle.uc_session.proofs.running.run_session.Given as goal
 

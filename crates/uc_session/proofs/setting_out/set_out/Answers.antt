@@ -12,6 +12,7 @@ returns-in-Ok-set_out_from-clause-answer g c =
     (record { state = state_of c.set_out_from.new.parts; files = g.F.Pieces.faults c.read_files.new.files })
     (sym c.in_default.ensures) c.in-Ok.catalog c.in-Ok.ensures.answer.0 c.in-Ok.ensures.answer.1
     (c.in-Ok.ensures.keeps ∙ ap (λ (v : Contents). v.keeps) c.new.ensures)
+    (setting_of c.set_out_from.new.parts) c.set_out_from.ensures.setting c.requires.standing c.tables_end.ensures
     (ready_of c.in-Ok.catalog c.set_out_from.new.tables) c.in-Ok-set_out_from.ensures.answer
 
 pub returns-in-Err-clause-answer : goal.returns-in-Err-clause-answer

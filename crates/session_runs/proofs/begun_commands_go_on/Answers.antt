@@ -1,7 +1,0 @@
-use Rattle.session_runs.proofs.Going.{begun_goes_on}
-use Rattle.session_runs.proofs.begun_commands_go_on.Goals as goal
-
-pub returns : goal.returns
-returns c =
-    begun_goes_on c.each_command_does_something.ensures.session c.each_state_stands.ensures.opening
-    c.each_state_stands.ensures.steps
