@@ -180,9 +180,3 @@ pub record HoldingText (line : Asked) (reads : List Read) (files : Option ℕ) (
     : Type 0 where
   pub is_text : AskedText line reads files text status
   pub headline : Headline line reads files text status
-
--- each text that the program may write is one
-abbrev pub TextsHold : Type 0
-TextsHold =
-    (line : Asked) (reads : List Read) (files : Option ℕ) (text : List ℕ) (status : Status) →
-    Headline line reads files text status

@@ -1,7 +1,7 @@
 -- What the program writes, and when it comes to its end.
 use Rattle.std.specs.Prelude.{◌≡◌, ◌⊎◌, ℕ, ◌<◌, List, [], ◌∷◌, length, map, Option, None}
 use Rattle.top_call.specs.declared.status.Status.{Status}
-use Rattle.top_call.specs.declared.status.Status.TheVariants.{Done, Usage, ReadFault, WriteFault}
+use Rattle.top_call.specs.declared.status.Status.TheVariants.{Usage, WriteFault}
 use Rattle.uc_topology.specs.Stated.{Machine}
 use Rattle.uc_topology.specs.Texts as topology
 use Rattle.uc_gen.specs.Texts as generated
@@ -60,10 +60,3 @@ CanBeDone (GenOf number) holds =
     (machine : Machine) × topology.States (generated.topology_text number) machine
     × ((stated : Stated) × States (limits_of machine) (generated.script_text number) stated
     × CanBePlayed (setting_of machine stated) stated.commands (bundle number))
-
--- where it can be done, a text of held reads is that of a run that did all, or of one in which a read failed
-abbrev pub DoneWhereItCan : Type 0
-DoneWhereItCan =
-    (line : Asked) (holds : List ℕ → List ℕ) (reads : List Read) (files : Option ℕ) (text : List ℕ) (status : Status) →
-    CanBeDone line holds → AreHeld holds reads → AskedText line reads files text status →
-    (status ≡ Done) ⊎ (status ≡ ReadFault)

@@ -17,6 +17,3 @@ pub use line::Line;
 pub use list::put_list;
 pub use offers::put_offers;
 pub use show::put_show;
-
-#[cfg(test)]
-mod tests;
