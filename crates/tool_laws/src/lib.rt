@@ -1,9 +1,10 @@
-//! Laws of the texts of `ucode`, proved of their definition alone: there is a text for all words and files; of each the headline
-//! sentence holds, and each has its cause; and what can be done is done. Each law is the contract of a function that only
-//! calls the laws that it rests on.
+//! Laws of the texts of `ucode`, proved of their definition alone: there is a text for all words and files; of each the
+//! headline sentence holds, and each has its cause; and what can be done is done. Each law is the contract of a
+//! function that only calls the laws that it rests on.
 #![tactic(auto)]
 
-ghost use Rattle.tool_laws.specs.Laws.{LinesHaveTexts, PlaysHaveTexts, GeneratedHaveTexts, TextsHold, TextsHaveCauses, DoneWhereItCan};
+ghost use Rattle.tool_laws.specs.Laws.{LinesHaveTexts, PlaysHaveTexts, GeneratedHaveTexts};
+ghost use Rattle.tool_laws.specs.Laws.{TextsHold, TextsHaveCauses, DoneWhereItCan};
 
 use command_laws::{each_command_does_something, what_a_load_leaves};
 use gen_laws::{generated_script_is_read, generated_topology_is_read};
@@ -20,8 +21,8 @@ pub fn some_text()
     some_session_text();
 }
 
-/// Whatever the files hold, there is a text for a session that is played, and for each number one of the session that is
-/// generated from it, for a run in which no read fails and each gives what is held.
+/// Whatever the files hold, there is a text for a session that is played, and for each number one of the session that
+/// is generated from it, for a run in which no read fails and each gives what is held.
 pub fn some_session_text()
     ensures played { PlaysHaveTexts }
     ensures generated { GeneratedHaveTexts }

@@ -32,7 +32,9 @@ abbrev pub ToolText : List (List ℕ) → List Read → Option ℕ → List ℕ 
 ToolText words = AskedText (asked words)
 
 -- a text of some reads; where the files tell what they hold, that is what the reads gave
-pub record FromReads (tells : Type 0) (holds : List ℕ → List ℕ) (texts : List Read → Option ℕ → List ℕ → Status → Type 0) (files : Option ℕ) (text : List ℕ) (status : Status) : Type 0 where
+pub record FromReads (tells : Type 0) (holds : List ℕ → List ℕ)
+    (texts : List Read → Option ℕ → List ℕ → Status → Type 0) (files : Option ℕ) (text : List ℕ) (status : Status)
+    : Type 0 where
   pub reads : List Read
   pub held : tells → AreHeld holds reads
   pub is_text : texts reads files text status
@@ -43,15 +45,16 @@ UsageCause (Faulty i) status = (status ≡ Usage i) ⊎ (status ≡ WriteFault)
 UsageCause line (Usage k) = ⊥
 UsageCause line status = Unit {0}
 
--- What is asked for can be done: every file has a reading within its limit, a number is that of an entry, and each command of a
--- session finds what it needs.
+-- What is asked for can be done: every file has a reading within its limit, a number is that of an entry, and each
+-- command of a session finds what it needs.
 abbrev pub CanBeDone : Asked → (List ℕ → List ℕ) → Type 0
 CanBeDone (Faulty i) holds = ⊥
 CanBeDone (ListOf names) holds = (readings : List Reading) × AreAccepted (map holds names) readings
 CanBeDone (ShowOf name number) holds =
     (readings : List Reading) × AreAccepted (holds name ∷ []) readings × (number < length (entries_of_all readings))
 CanBeDone (SelectOf topology names) holds =
-    (machine : Machine) × IsMachine (holds topology) machine × ((readings : List Reading) × AreAccepted (map holds names) readings)
+    (machine : Machine) × IsMachine (holds topology) machine
+    × ((readings : List Reading) × AreAccepted (map holds names) readings)
 CanBeDone (PlayOf topology script) holds =
     (machine : Machine) × IsMachine (holds topology) machine
     × ((stated : Stated) × IsScript (limits_of machine) (holds script) stated

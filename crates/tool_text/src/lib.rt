@@ -4,8 +4,8 @@
 //! The texts are made of the lines of `report_text`, and go by what was read (`file_reads`), so they say the same of
 //! files that tell nothing of what they hold. The definitions are in `specs/`: `Words` for the rule of the command
 //! line, `Commands` and `Plays` for the texts of single commands, `Tool` for the whole program and for the runs that
-//! come to their end. `Able` says which sessions can be done, `Ends` why one ends short or with a thread that halted, and
-//! `Headline` what holds of whatever a text shows to be done.
+//! come to their end. `Able` says which sessions can be done, `Ends` why one ends short or with a thread that halted,
+//! and `Headline` what holds of whatever a text shows to be done.
 #![tactic(auto)]
 
 /// How many update files a command takes at most.

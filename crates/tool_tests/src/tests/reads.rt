@@ -31,8 +31,8 @@ fn failing_at(alloc: Global, call: u32) -> Result<MemFiles, Fail> {
 #[test]
 fn the_first_file_of_which_a_call_fails_is_named(rt: HostRuntime) -> Result<(), Fail> {
     let alloc = rt.alloc();
-    // A topology is read by one call. An update file takes three: it is opened, one piece is taken, and its end is found.
-    // The fault of `bad.bin` shows in its first piece, that of `late.bin` in its second.
+    // A topology is read by one call. An update file takes three: it is opened, one piece is taken, and its end is
+    // found. The fault of `bad.bin` shows in its first piece, that of `late.bin` in its second.
     let table = [
         ("select t1 a.bin r.bin", 1, "error read t1\n"),
         ("select t1 a.bin r.bin", 2, "error read a.bin\n"),

@@ -3,8 +3,8 @@ use super::*;
 use main_parts::words;
 use std::env::{Env, FillError};
 
-/// An environment of a program's name and four words: one that is text, one that is not UTF-8, one that is too long and an
-/// empty one.
+/// An environment of a program's name and four words: one that is text, one that is not UTF-8, one that is too long and
+/// an empty one.
 struct Made;
 
 impl Env for Made {

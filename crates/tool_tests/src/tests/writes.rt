@@ -85,7 +85,10 @@ answer done
         };
         assert_eq!(rt; found, wanted, "{before}");
         let lines = before.min(8);
-        assert!(rt; are_first_lines(out.bytes(), whole.as_bytes(), lines), "{before}");
+        assert!(rt;
+            are_first_lines(out.bytes(), whole.as_bytes(), lines),
+            "{before}"
+        );
     }
     Ok(())
 }
