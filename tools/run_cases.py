@@ -5,7 +5,8 @@
 
 The cases stand at the ends of ranges and between neighbours: numbers of two digits, revisions, identifiers and
 signatures that differ in their high bits, cores that differ in one fact, a table that passes the first piece of its file,
-and sessions that end with each answer. The status is compared, and how standard output begins and ends. The status is 0
+each form of a line, and sessions that end with each answer. The status is compared, and how standard output begins and ends,
+or the whole of it where both are given alike. The status is 0
 where all is as it should be, 1 where something is not, 2 for faulty words.
 """
 import struct
@@ -24,10 +25,10 @@ def update(rev=0xF0, flags=2, least=0, data=16, date=0x07112023):
     return struct.pack(f"<{len(words)}I", *words)
 
 
-def container(sig, row_id, patch_id, length=64, table=16):
-    """A container with one row in a table of so many bytes, and one patch of revision 0x0a20102b and zeros."""
+def container(sig, row_id, patch_id, length=64, table=16, rev=0x0A20102B):
+    """A container with one row in a table of so many bytes, and one patch of a revision and zeros."""
     head = struct.pack("<7I", 0x00414D44, 0, table, sig, 0, 0, row_id).ljust(12 + table, b"\0")
-    return head + struct.pack("<9I", 1, length, 0, 0x0A20102B, 0, 0, 0, 0, patch_id).ljust(8 + length, b"\0")
+    return head + struct.pack("<9I", 1, length, 0, rev, 0, 0, 0, 0, patch_id).ljust(8 + length, b"\0")
 
 
 def patches(rows, ids, table=None):
@@ -69,7 +70,7 @@ LISTED = [
     (0x00F00F22, 0xF022, 64, "0000f022", "1e", True), (0x00000F48, 0, 64, "00000000", "0f", False),
     (0x00600F22, 0x6022, 9000, "00006022", "15", True), (0x00700F22, 0x7022, 9000, "00007022", "16", True),
     (0x00800F22, 0x8022, 9000, "00008022", "17", True), (0x00A00F22, 0xA022, 9000, "0000a022", "19", True),
-    (0x00000F48, 0x0F48, 9000, "00000f48", "0f", True),
+    (0x00000F48, 0x0F48, 9000, "00000f48", "0f", True), (0x00500F10, 0x5000, 1824, "00005000", "14", True),
 ]
 # Dates, mmddyyyy in binary-coded decimal, and the days that they name.
 DATES = [
@@ -192,12 +193,55 @@ SESSIONS = [
     (alike(2), "pool 2\nboot\nrefuse 0\nrefuse 1\nload d\n*80\nend\naccept 0\nload d\n*80\nend\nload b\n*80\nend\n", 3,
      "core 0 rev 0x000000f0\ncore 1 rev 0x000000b4\nanswer incomplete 1\ncommand 7 load\nanswer pool-full 1\n"),
 ]
+FACTS = "rev 0x000000f0 date 2023-07-11 sig 0x000906ea flags 0x00000002"
+PAIRS = "  pair 0x000906eb 0x00000002\n  pair 0x000906ec 0x00000022\n"
 # An update of 108 bytes whose table has the pairs (0x906eb, 2) and (0x906ec, 0x22).
 WITH_TABLE = struct.pack("<27I", 1, 0xF0, 0x07112023, 0x000906EA, 0xF8E5D783, 1, 2, 16, 108, 0, 0, 0, 0, 0, 0, 0, 2,
                          0x0E224320, 0, 0, 0, 0x000906EB, 2, 0xF8E5D782, 0x000906EC, 0x22, 0xF8E5D761)
 # An update of 64 bytes, no two of whose words are alike but the two that have to be 1.
 DISTINCT = struct.pack("<16I", 1, 0xB4, 0x07112023, 0x000906EA, 0xF8E5D75A, 1, 0x22, 16, 64, 0x30, 0x15, 0x2C, 0x70000,
                        0xFFF90000, 0, 0)
+# Two containers whose tables give one id for two signatures.
+TWO = container(0x00A20F10, 0xA210, 0xA210, table=32) + container(0x00A20F12, 0xA210, 0xA210, table=32, rev=0x0A201210)
+SAMPLES = {**FILES, "e": b"", "m": update(least=0xB4), "two": update() + update(0xF4), "x": WITH_TABLE, "z": TWO}
+# The names behind `list`, and the text.
+LISTINGS = [
+    ("e", "file 0 e intel 0\n"), ("m", f"file 0 m intel 1\n0 at 0 len 64 {FACTS} min 0x000000b4\n"),
+    ("x", f"file 0 x intel 1\n0 at 0 len 108 {FACTS}\n{PAIRS}"),
+    ("two", f"file 0 two intel 2\n0 at 0 len 64 {FACTS}\n1 at 64 len 64 {FACTS.replace('f0', 'f4')}\n"),
+    ("z", "file 0 z amd 2\n0 at 52 len 64 rev 0x0a20102b id 0x0000a210 family 0x00000019\n  sig 0x00a20f10\n"
+     "1 at 168 len 64 rev 0x0a201210 id 0x0000a210 family 0x00000019\n  sig 0x00a20f12\n"),
+    ("d z e x", f"file 0 d intel 1\n0 at 0 len 2048 {FACTS}\n"
+     "file 1 z amd 2\n1 at 52 len 64 rev 0x0a20102b id 0x0000a210 family 0x00000019\n  sig 0x00a20f10\n"
+     "2 at 168 len 64 rev 0x0a201210 id 0x0000a210 family 0x00000019\n  sig 0x00a20f12\n"
+     f"file 2 e intel 0\nfile 3 x intel 1\n3 at 0 len 108 {FACTS}\n{PAIRS}"),
+    ("x m two", f"file 0 x intel 1\n0 at 0 len 108 {FACTS}\n{PAIRS}file 1 m intel 1\n1 at 0 len 64 {FACTS} min 0x000000b4\n"
+     f"file 2 two intel 2\n2 at 0 len 64 {FACTS}\n3 at 64 len 64 {FACTS.replace('f0', 'f4')}\n"),
+]
+# The words behind `show`, the status, and the text.
+SHOWN = [
+    ("a 0", 0, f"0 at 0 len 64 {FACTS}\n01000000f000000023201107ea060900afd7e5f8010000000200000010000000\n"
+     "4000000000000000000000000000000000000000000000000000000000000000\n"),
+    ("x 0", 0, f"0 at 0 len 108 {FACTS}\n01000000f000000023201107ea06090083d7e5f8010000000200000010000000\n"
+     "6c00000000000000000000000000000000000000000000000000000000000000\n"
+     "020000002043220e000000000000000000000000eb0609000200000082d7e5f8\nec0609002200000061d7e5f8\n"),
+    ("z 1", 0, "1 at 168 len 64 rev 0x0a201210 id 0x0000a210 family 0x00000019\n"
+     "000000001012200a0000000000000000000000000000000010a2000000000000\n" + 64 * "0" + "\n"),
+    ("a 1", 2, "error entry 1\n"), ("a 0x10", 2, "error entry 16\n"),
+]
+# A machine, the names of update files, and what its cores are offered.
+FOUR = ("ucode-topology 2\nvendor intel\ncore 0 package 0 sig 0x906ea flags 0x2 rev 0xb4\n"
+        "core 1 package 1 sig 0x906ea flags 0x2 rev 0xb3\ncore 2 package 0 sig 0x906ea flags 0x2 rev 0xb4\n"
+        "core 3 package 2 sig 0x906eb flags 0x2 rev 0xb4\n" + "".join(f"cpu {c} core {c}\n" for c in range(4)))
+OFFERS = [
+    (cores("sig 0xa20f10 flags 0 rev 0xa201000", "sig 0xa20f12 flags 0 rev 0xa201000", vendor=AMD), "z",
+     "core 0 rev 0x0a201000 offer 0 rev 0x0a20102b\ncore 1 rev 0x0a201000 offer 1 rev 0x0a201210\n"),
+    (PACKAGES, "a", "".join(f"core {c} rev 0x000000b4 offer 0 rev 0x000000f0\n" for c in range(3))),
+    (FOUR, "m", "core 0 rev 0x000000b4 offer 0 rev 0x000000f0 safe\ncore 1 rev 0x000000b3 offer 0 rev 0x000000f0\n"
+     "core 2 rev 0x000000b4 offer 0 rev 0x000000f0 safe\ncore 3 rev 0x000000b4 offer none\n"),
+    (FOUR, "x m two", "core 0 rev 0x000000b4 offer 3 rev 0x000000f4\ncore 1 rev 0x000000b3 offer 3 rev 0x000000f4\n"
+     "core 2 rev 0x000000b4 offer 3 rev 0x000000f4\ncore 3 rev 0x000000b4 offer 0 rev 0x000000f0\n"),
+]
 
 
 def lists():
@@ -214,9 +258,6 @@ def lists():
     for date, day in DATES:
         text = f"file 0 y intel 1\n0 at 0 len 64 rev 0x000000f0 date {day} sig 0x000906ea flags 0x00000002\n"
         yield ["list", "y"], {"y": update(date=date)}, 0, text, text
-    text = ("file 0 x intel 1\n0 at 0 len 108 rev 0x000000f0 date 2023-07-11 sig 0x000906ea flags 0x00000002\n"
-            "  pair 0x000906eb 0x00000002\n  pair 0x000906ec 0x00000022\n")
-    yield ["list", "x"], {"x": WITH_TABLE}, 0, text, text
     text = ("file 0 e intel 0\nfile 1 y intel 1\n0 at 0 len 64 rev 0x000000b4 date 2023-07-11 sig 0x000906ea "
             "flags 0x00000022 min 0x00000015\n")
     for rows, ids, served in ROWS:
@@ -232,6 +273,11 @@ def lists():
         text = (f"file 0 y amd 1\n0 at {20 + length} len 64 rev 0x05000029 id 0x0000a210 family 0x00000019\n"
                 + "".join(f"  sig {sig:#010x}\n" for sig, _ in rows[:count]))
         yield ["list", "y"], {"y": patches(rows, [0xA210], length)}, 0, text, text
+    yield ["list", "y"], {"y": container(0x00500F10, 0x5000, 0)[:28]}, 0, "file 0 y amd 0\n", "file 0 y amd 0\n"
+    for names, text in LISTINGS:
+        yield ["list", *names.split()], SAMPLES, 0, text, text
+    for words, status, text in SHOWN:
+        yield ["show", *words.split()], SAMPLES, status, text, text
 
 
 def selections():
@@ -276,7 +322,14 @@ def selections():
     yield ["select", "t", "y"], {"y": two, "t": MIXED.encode()}, 0, text, text
 
 
+    for topology, names, text in OFFERS:
+        files = {**SAMPLES, "t": topology.encode()}
+        yield ["select", "t", *names.split()], files, 0, text, text
+
+
 def sessions():
+    text = "gen 1 lines 12870 last answer done\n"
+    yield ["gen", "1"], {}, 0, text, text
     for topology, commands, status, end in SESSIONS:
         files = {**FILES, "x": WITH_TABLE, "later": update(0xF4, least=0xF0)}
         files.update({"t": topology.encode(), "s": (SCRIPT + commands).encode()})
@@ -288,6 +341,8 @@ def fault_of(ending, status, begin, end):
     found, written = ending
     if found != status:
         return f"ends with status {found} and should with {status}"
+    if begin == end and written != end.encode():
+        return f"writes {written[:400]!r} and should write {end!r}"
     if not written.startswith(begin.encode()):
         return f"begins with {written[:200]!r} and should with {begin!r}"
     if not written.endswith(end.encode()):

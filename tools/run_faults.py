@@ -55,6 +55,9 @@ UPDATES = [
     ({8: 96, 16: 1, 17: 0x0711218F, 22: 3}, 96, "0 entry-sum 0"),
     ({20: 5, 17: 0x0E22431B}, 108, None), ({22: 3, 23: 0xF8E5D781}, 108, None),
     ({17: 0x8E224320, 22: 0x80000002}, 108, "0 entry-sum 0"),
+    ({8: 96}, 96, "0 ext-count"),
+    ({4: 0xF8E5D7FE, 7: 0, 8: 0}, 2048, "0 sum"), ({4: 0xF8E5D7FF, 7: 0, 8: 0}, 2052, "2048 short"),
+    ({17: 0x0E224321}, 108, "0 ext-sum"), ({0: 0x00414D44, 7: 0, 8: 0}, 2048, "0 equiv-type"),
 ]
 # A container of 116 bytes: its head, a row and a row of zeros, a section's head, and a patch of 64 bytes.
 MAGIC = 0x00414D44
@@ -81,6 +84,7 @@ CONTAINERS = [
     ({17: 1}, 116, "44 chipset"), ({18: 1}, 116, "44 chipset"), ({17: 0x80000000}, 116, "44 chipset"),
     ({16: 1, 20: 1}, 116, None), ({}, 117, "116 section-short"), ({}, 124, "116 section-type"),
     ({11: MAGIC}, 47, "44 section-short"), ({11: MAGIC}, 48, "44 equiv-short"),
+    ({11: 2}, 116, "44 section-type"),
     ({11: MAGIC, 12: 1}, 56, "44 equiv-type"), ({11: MAGIC, 12: 0, 13: 15}, 56, "44 table-small"),
     ({11: MAGIC, 12: 0, 13: 16}, 72, None), ({1: 0x100}, 116, "0 equiv-type"), ({2: 16}, 12, "0 table-cut"),
     ({2: 17}, 29, None), ({11: 0x101}, 116, "44 section-type"), ({18: 0x80000000}, 116, "44 chipset"),
@@ -97,12 +101,6 @@ BOUNDED = [
 # What begins a file of four bytes or fewer, and why it is refused.
 FRONTS = [
     (b"DMA", "0 short"), (b"DMA\0", "0 equiv-short"), (b"DMB\0", "0 short"), (b"DMA\1", "0 short"), (b"\0AMD", "0 short"),
-]
-# Where two containers of 116 bytes are cut off: the first length of a range, and what holds up to the next one.
-CUTS = [
-    (1, "0 short"), (4, "0 equiv-short"), (12, "0 table-cut"), (44, None), (45, "44 section-short"), (52, "44 patch-cut"),
-    (116, None), (117, "116 section-short"), (120, "116 equiv-short"), (128, "116 table-cut"), (160, None),
-    (161, "160 section-short"), (168, "160 patch-cut"), (232, None),
 ]
 # Words of a 65,537th section, its length, and why it is refused: by a check of its own before the last.
 BEHIND_ALL = [
@@ -183,6 +181,7 @@ SCRIPTS = [
     (SCRIPT + 4096 * "accept 0\n" + "accept 1\n", "4098 range"),
     (SCRIPT + 4096 * "accept 0\n" + "load a\n", "4098 too-many"),
     (SCRIPT + "load a\n" + 64 * "*65535\n" + "*65 s1\nend\n", "67 range"),
+    (SCRIPT + "boot\nload a\n*28\n", "3 no-end"),
     (SCRIPT + "load a\ns0 *65535\tt000  n0\nend\n", None), (SCRIPT + "load a\nt007\nend\n", "3 range"),
     (SCRIPT + "load a\nn400000010\nend\n", "3 range"), (SCRIPT + "load a\nr4000000000\nend\n", "3 range"),
     (SCRIPT + "load a\nr12a\nend\n", "3 number"), (SCRIPT + "load a\nx9\nend\n", "3 word"),
@@ -211,6 +210,22 @@ SCRIPTS_FOR_TWO = [
     (SCRIPT + "load a\n" + 32 * "*65535\n" + "*24 *8 s0\nend\n", "35 too-many"),
     (SCRIPT + "load a\n" + 32 * "*65535\n" + "*32\ns0\nend\n", "36 too-many"),
 ]
+# Command lines, and the index of the first word that cannot stand in its place, or the number of words where one is missing.
+WORDS = [
+    ("help", 0), ("list -x", 1), ("list -x b", 1), ("list a -b", 2),
+    ("show", 1), ("show a", 2), ("show a q", 2), ("show -a 0", 1), ("show a 0 0", 3), ("show a 0 0 0", 3),
+    ("select", 1), ("select -t a", 1), ("select t", 2), ("select t a -b c", 3),
+    ("play", 1), ("play t", 2), ("play -t s", 1), ("play t -s", 2), ("play t s s", 3),
+    ("gen", 1), ("gen x", 1), ("gen 1 1", 2),
+]
+# Command lines of which more than one word names a faulty file, the status, and which is told: `none` and `missing` are not
+# there, `e` is empty, and `short` is an update of 5 bytes.
+ORDERS = [
+    ("list e none short", 4, "read none"), ("list e short none", 2, "file short at 0 short"), ("show none 0", 4, "read none"),
+    ("select missing none", 4, "read missing"), ("select e none", 2, "topology line 0 head"),
+    ("select t none short", 4, "read none"), ("play missing none", 4, "read missing"), ("play t none", 4, "read none"),
+    ("play e none", 2, "topology line 0 head"), ("play t e", 2, "script line 0 head"),
+]
 
 
 def changed(words, changes, length):
@@ -234,14 +249,9 @@ def file_cases():
     for number, length, passes in BOUNDED:
         file = changed(CONTAINER, {12: length, 19: number}, 52 + length)
         yield ["list", "f"], {"f": file}, 2 if passes else 0, text_of("file f at", "44 family-size" if passes else None)
-    for length in range(1, 108):
-        fault = "0 short" if length < 48 else "0 truncated"
-        yield ["list", "f"], {"f": changed(UPDATE, {}, length)}, 2, text_of("file f at", fault)
-    both = changed(CONTAINER, {}, 116) + changed(CONTAINER, {3: 0x00A20F12, 14: 0x0A201210}, 116)
-    for length in range(1, 233):
-        fault = [fault for begin, fault in CUTS if begin <= length][-1]
-        yield ["list", "f"], {"f": both[:length]}, 2 if fault else 0, text_of("file f at", fault)
     update = changed(UPDATE, {8: 64, 4: 0xF8E5D7AF}, 64)
+    later = changed(UPDATE, {8: 64, 1: 0xF4, 4: 0xF8E5D7AB, 15: 1}, 64)
+    yield ["list", "f"], {"f": update + later}, 2, b"error file f at 64 sum\n"
     head, section = changed(CONTAINER, {2: 16}, 28), changed(CONTAINER[11:], {}, 72)
     for one, most, front, place in ((update, 65536, b"", 0), (section, 65536, head, 28)):
         yield ["list", "f"], {"f": front + most * one}, 0, None
@@ -254,6 +264,33 @@ def file_cases():
     yield ["list", "f"], {"f": all_sections + head}, 0, None
     fault = f"{len(all_sections) + 28} too-many"
     yield ["list", "f"], {"f": all_sections + head + section}, 2, text_of("file f at", fault)
+
+
+def front_cases():
+    """Each front of an update and of two containers."""
+    for length in range(1, 108):
+        fault = "0 short" if length < 48 else "0 truncated"
+        yield ["list", "f"], {"f": changed(UPDATE, {}, length)}, 2, text_of("file f at", fault)
+    two = changed(CONTAINER, {}, 116) + changed(CONTAINER, {3: 0x00A20F12, 14: 0x0A201210}, 116)
+    faults = [(4, "0 short"), (12, "0 equiv-short"), (44, "0 table-cut"), (52, "44 section-short"), (116, "44 patch-cut"),
+              (120, "116 section-short"), (128, "116 equiv-short"), (160, "116 table-cut"), (168, "160 section-short"),
+              (232, "160 patch-cut")]
+    one = b"0 at 52 len 64 rev 0x0a20102b id 0x0000a210 family 0x00000019\n  sig 0x00a20f10\n"
+    whole = {0: b"file 0 f intel 0\n", 44: b"file 0 f amd 0\n", 116: b"file 0 f amd 1\n" + one, 160: b"file 0 f amd 1\n" + one}
+    for length in range(232):
+        text = whole.get(length) or text_of("file f at", next(fault for end, fault in faults if length < end))
+        yield ["list", "f"], {"f": two[:length]}, 0 if length in whole else 2, text
+
+
+def word_cases():
+    files = {"t": (HEAD + CORE + CPU).encode(), "e": b"", "short": b"short"}
+    for words, place in WORDS:
+        yield words.split(), files, 1, f"usage {place}\n".encode()
+    for words, status, fault in ORDERS:
+        yield words.split(), files, status, f"error {fault}\n".encode()
+    # The longest word that Linux hands on, and one that is no ASCII.
+    for name in (131071 * "n", "l\u00efst"):
+        yield ["list", name], files, 4, f"error read {name}\n".encode()
 
 
 def text_cases():
@@ -343,4 +380,4 @@ def run(name, description, groups, fault_of):
 
 if __name__ == "__main__":
     run("faults", "Runs a built `ucode` on files that fail each check, and compares.",
-        (file_cases, text_cases, limit_cases), fault_of)
+        (file_cases, front_cases, word_cases, text_cases, limit_cases), fault_of)

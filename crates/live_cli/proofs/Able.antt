@@ -34,7 +34,7 @@ use Rattle.session_steps.specs.Session.{StepsFrom, ends_session, left_to_run, is
 use Rattle.session_laws.proofs.Plans.{offer_in}
 use Rattle.tool_text.specs.Commands.{entries_of_all}
 use Rattle.tool_text.specs.Able as able
-use Rattle.tool_text.proofs.Able.{IsEndedOrUnread, ended, left_unread, all_can_be_done}
+use Rattle.tool_laws.proofs.Able.{IsEndedOrUnread, ended, left_unread, all_can_be_done}
 use Rattle.live_cli.specs.Able.{CanLoad, CanDo, CanDoAll}
 use Rattle.live_cli.proofs.Loads.{some_is, ran_of, in_time_row}
 

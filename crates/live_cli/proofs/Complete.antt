@@ -30,7 +30,7 @@ use Rattle.top_call.specs.Causes.{ReadCause, WriteCause}
 use Rattle.top_call.specs.Written.{Written}
 use Rattle.tool_text.specs.Words.{Asked, SelectOf, PlayOf}
 use Rattle.tool_text.specs.Plays.{limits_of, setting_of, status_of, ScriptFailsAt}
-use Rattle.tool_text.proofs.Complete.{IsEnd, complete as ends_with}
+use Rattle.tool_laws.proofs.Complete.{IsEnd, complete as ends_with}
 use Rattle.live_cli.specs.Able.{CanDoAll, CanBeDone, AreInTime}
 use Rattle.live_cli.specs.Texts.{Course, FromRuns, KeptBy, AskedText, SessionText, TooManyAt, PlaysFor, PlaysScript}
 use Rattle.live_cli.proofs.Able.{IsFine, IsInTime, all_done_in_time}

@@ -7,8 +7,8 @@ use Rattle.rendezvous_rule.specs.Runs.{RunOf}
 use Rattle.script_text.proofs.Kept.{within}
 use Rattle.tool_text.specs.Words.{Asked, Faulty, ListOf, ShowOf, SelectOf, PlayOf, GenOf}
 use Rattle.tool_text.specs.Plays.{limits_of, setting_of}
-use Rattle.tool_text.proofs.Sessions.{Laws, session_holds}
-use Rattle.tool_text.proofs.SomePlay.{all_in_range}
+use Rattle.tool_laws.proofs.Sessions.{Laws, session_holds}
+use Rattle.tool_laws.proofs.SomePlay.{all_in_range}
 use Rattle.uc_cli.proofs.Headline.{written_as}
 use Rattle.live_cli.specs.Headline.{HoldingText, TextsHold}
 use Rattle.live_cli.specs.Texts.{Rendezvous, Course, AskedText, FromRuns}

@@ -1,6 +1,6 @@
--- What holds of whatever a text of live loads shows to be done, for every set of files, topology and script, and every order
--- of the threads' steps: the headline sentence, part by part, of each command of the session that it is the text of. Where a
--- rendezvous lists no items, its outcome is one that a run may come to.
+-- What holds of whatever a text of live loads shows to be done, for every set of files, topology and script, and every
+-- order of the threads' steps: the headline sentence, part by part, of each command of the session that it is the text
+-- of. Where a rendezvous lists no items, its outcome is one that a run may come to.
 use Rattle.std.specs.Prelude.{ℕ, List, Option}
 use Rattle.top_call.specs.declared.status.Status.{Status}
 use Rattle.session_steps.specs.State.{opening_state}

@@ -14,6 +14,3 @@ mod words;
 pub use live::run_live;
 pub use prompt::PromptOut;
 pub use top_call::Status;
-
-#[cfg(test)]
-mod tests;

@@ -6,6 +6,3 @@ mod remarks;
 
 pub use arguments::words;
 pub use remarks::Speaker;
-
-#[cfg(test)]
-mod tests;

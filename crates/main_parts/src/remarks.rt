@@ -14,8 +14,8 @@ pub struct Speaker<'a> {
 }
 
 impl Speaker<'_> {
-    /// Says in one line, for people, why a run ended so: where the words are faulty, a file was not read, standard output
-    /// did not take all or memory ran out. Otherwise standard output tells all, and nothing is said.
+    /// Says in one line, for people, why a run ended so: where the words are faulty, a file was not read, standard
+    /// output did not take all or memory ran out. Otherwise standard output tells all, and nothing is said.
     pub fn remark(&self, err: &impl Print, status: Status, failure: Option<&Failure>) {
         let (name, forms) = (self.name, self.forms);
         let _said = match status {

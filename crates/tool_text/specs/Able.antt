@@ -1,6 +1,7 @@
 -- Which sessions can be done, where the files hold this: each command finds what it needs, in whatever state those
 -- before it leave.
-use Rattle.std.specs.Prelude.{◌≡◌, ℕ, ◌+◌, ◌*◌, ◌==◌, ◌≤◌, Bool, true, false, List, [], ◌∷◌, map, All, Option, Some, None}
+use Rattle.std.specs.Prelude.{◌≡◌, ℕ, ◌+◌, ◌*◌, ◌==◌, ◌≤◌, Bool, true, false}
+use Rattle.std.specs.Prelude.{List, [], ◌∷◌, map, All, Option, Some, None}
 use Rattle.file_entries.specs.Reading.{Reading}
 use Rattle.file_reads.specs.Accepts.{AreAccepted}
 use Rattle.file_reads.specs.Reads.{AreHeld}

@@ -1,5 +1,5 @@
--- The texts of the commands, each with its status, for the reads that the command made, in their order; the option is the
--- number of files that were read to their ends before one could not be read.
+-- The texts of the commands, each with its status, for the reads that the command made, in their order; the option is
+-- the number of files that were read to their ends before one could not be read.
 use Rattle.std.specs.Prelude.{◌≡◌, ◌⊎◌, ℕ, ◌≤◌, List, [], ◌∷◌, length, Option, Some, None, slice_get, slice_index_or}
 use Rattle.uc_topology.specs.declared.fault.TopoCause.{TopoCause}
 use Rattle.uc_topology.specs.Stated.{Machine}
@@ -36,7 +36,8 @@ abbrev pub Listed : List (List ℕ) → Outcome → List ℕ → Status → Type
 Listed names (AllRead readings) text Done = IsListing names readings text
 Listed names outcome text status = StopsAt outcome text status
 
-pub record ListText (names : List (List ℕ)) (reads : List Read) (files : Option ℕ) (text : List ℕ) (status : Status) : Type 0 where
+pub record ListText (names : List (List ℕ)) (reads : List Read) (files : Option ℕ) (text : List ℕ)
+    (status : Status) : Type 0 where
   pub outcome : Outcome
   pub come : Reads names reads outcome
   pub count : files ≡ count_of outcome reads
@@ -53,10 +54,12 @@ pub record IsShown (readings : List Reading) (number : ℕ) (text : List ℕ) : 
 
 abbrev pub Shown : ℕ → Outcome → List ℕ → Status → Type 0
 Shown number (AllRead readings) text Done = IsShown readings number text
-Shown number (AllRead readings) text BadInput = (length (entries_of_all readings) ≤ number) × (text ≡ no_entry_line number)
+Shown number (AllRead readings) text BadInput =
+    (length (entries_of_all readings) ≤ number) × (text ≡ no_entry_line number)
 Shown number outcome text status = StopsAt outcome text status
 
-pub record ShowText (name : List ℕ) (number : ℕ) (reads : List Read) (files : Option ℕ) (text : List ℕ) (status : Status) : Type 0 where
+pub record ShowText (name : List ℕ) (number : ℕ) (reads : List Read) (files : Option ℕ) (text : List ℕ)
+    (status : Status) : Type 0 where
   pub outcome : Outcome
   pub come : Reads (name ∷ []) reads outcome
   pub count : files ≡ count_of outcome reads
@@ -79,7 +82,8 @@ Selected machine (AllRead readings) text Done = IsSelection machine readings tex
 Selected machine outcome text status = StopsAt outcome text status
 
 -- the topology is read and states a machine, before any update file is opened
-pub record SelectsFor (topology : List ℕ) (names : List (List ℕ)) (reads : List Read) (files : Option ℕ) (text : List ℕ) (status : Status) : Type 0 where
+pub record SelectsFor (topology : List ℕ) (names : List (List ℕ)) (reads : List Read) (files : Option ℕ)
+    (text : List ℕ) (status : Status) : Type 0 where
   pub bytes : List ℕ
   pub behind : List Read
   pub first : reads ≡ record { name = topology; bytes = bytes } ∷ behind

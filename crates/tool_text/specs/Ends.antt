@@ -62,9 +62,3 @@ pub record CausedText (line : Asked) (reads : List Read) (files : Option ℕ) (t
   pub panicked :
       (t : ℕ) →
       (status ≡ Panicked t) ↔ SomeSession line reads files text status (λ dids. OneDid dids (HaltsIn t))
-
--- each text that the program may write is one
-abbrev pub TextsHaveCauses : Type 0
-TextsHaveCauses =
-    (line : Asked) (reads : List Read) (files : Option ℕ) (text : List ℕ) (status : Status) →
-    AskedText line reads files text status → CausedText line reads files text status

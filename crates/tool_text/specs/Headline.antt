@@ -7,7 +7,8 @@
 --
 -- The definitions below say this part by part, of what a command did, of a session, and of a text that the program may
 -- write. A core stands here for all cores that one write serves: those of its group.
-use Rattle.std.specs.Prelude.{◌≡◌, ◌≢◌, ℕ, ◌<◌, ◌≤◌, Bool, true, false, List, [], ◌∷◌, ◌++◌, length, take, Option, Some, None, option_map, flat_map}
+use Rattle.std.specs.Prelude.{◌≡◌, ◌≢◌, ℕ, ◌<◌, ◌≤◌, Bool, true, false, Option, Some, None, option_map}
+use Rattle.std.specs.Prelude.{List, [], ◌∷◌, ◌++◌, length, take, flat_map}
 use Rattle.uc_topology.specs.Stated.{Machine, core_at, group_of}
 use Rattle.top_call.specs.declared.status.Status.{Status}
 use Rattle.file_entries.specs.declared.facts.CoreFacts.{CoreFacts}
@@ -83,8 +84,8 @@ pub record SafeItems (plan : Plan) (beats : List Beat) (lines : List ℕ) (outco
   pub never_falls : NeverFalls (length items) states
   pub comes_out : OutcomeShows plan outcome (states (length items))
 
--- Where a rendezvous lists its items, they are safe. Where it lists nothing, its outcome is one that a run may come to: a
--- group runs its offer after a go where it does not refuse, and what it ran before after a drop.
+-- Where a rendezvous lists its items, they are safe. Where it lists nothing, its outcome is one that a run may come to:
+-- a group runs its offer after a go where it does not refuse, and what it ran before after a drop.
 abbrev pub ShowsRun : Bool → RunOf → List Beat → List ℕ → Type 0
 ShowsRun true ran beats lines = SafeItems ran.plan beats lines ran.outcome
 ShowsRun false ran beats lines = Unlisted ran.plan lines ran.outcome ran.late
@@ -180,9 +181,3 @@ pub record HoldingText (line : Asked) (reads : List Read) (files : Option ℕ) (
     : Type 0 where
   pub is_text : AskedText line reads files text status
   pub headline : Headline line reads files text status
-
--- each text that the program may write is one
-abbrev pub TextsHold : Type 0
-TextsHold =
-    (line : Asked) (reads : List Read) (files : Option ℕ) (text : List ℕ) (status : Status) →
-    Headline line reads files text status

@@ -1,5 +1,6 @@
 -- The texts of the commands that play a session, each with its status, for the reads that were made, in their order.
-use Rattle.std.specs.Prelude.{◌≡◌, ◌⊎◌, ℕ, ◌+◌, ◌-◌, ◌^◌, true, List, [], ◌∷◌, length, min, take, bytes_eq, if◌then◌else◌, Option, Some, None, count_by, codes, decimal}
+use Rattle.std.specs.Prelude.{◌≡◌, ◌⊎◌, ℕ, ◌+◌, ◌-◌, ◌^◌, min, true, if◌then◌else◌, Option, Some, None}
+use Rattle.std.specs.Prelude.{List, [], ◌∷◌, length, take, bytes_eq, count_by, codes, decimal}
 use Rattle.uc_text.specs.Lines.{is_line_feed}
 use Rattle.uc_topology.specs.Stated.{Machine}
 use Rattle.uc_topology.specs.Texts as topology
@@ -120,7 +121,8 @@ summary_line number text =
     ∷ codes " last " ∷ take 128 (last_line text)
     ∷ codes "\n" ∷ [])
 
--- the commands of the generated script were run on the machine of the generated topology, and the generated bundle was read
+-- the commands of the generated script were run on the machine of the generated topology, and the generated bundle was
+-- read
 pub record IsGenerated (number : ℕ) (text : List ℕ) (answer : SessionAnswer) : Type 0 where
   pub machine : Machine
   pub is_machine : topology.States (generated.topology_text number) machine

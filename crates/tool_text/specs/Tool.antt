@@ -1,7 +1,7 @@
 -- What the program writes, and when it comes to its end.
 use Rattle.std.specs.Prelude.{◌≡◌, ◌⊎◌, ℕ, ◌<◌, List, [], ◌∷◌, length, map, Option, None}
 use Rattle.top_call.specs.declared.status.Status.{Status}
-use Rattle.top_call.specs.declared.status.Status.TheVariants.{Done, Usage, ReadFault, WriteFault}
+use Rattle.top_call.specs.declared.status.Status.TheVariants.{Usage, WriteFault}
 use Rattle.uc_topology.specs.Stated.{Machine}
 use Rattle.uc_topology.specs.Texts as topology
 use Rattle.uc_gen.specs.Texts as generated
@@ -32,7 +32,9 @@ abbrev pub ToolText : List (List ℕ) → List Read → Option ℕ → List ℕ 
 ToolText words = AskedText (asked words)
 
 -- a text of some reads; where the files tell what they hold, that is what the reads gave
-pub record FromReads (tells : Type 0) (holds : List ℕ → List ℕ) (texts : List Read → Option ℕ → List ℕ → Status → Type 0) (files : Option ℕ) (text : List ℕ) (status : Status) : Type 0 where
+pub record FromReads (tells : Type 0) (holds : List ℕ → List ℕ)
+    (texts : List Read → Option ℕ → List ℕ → Status → Type 0) (files : Option ℕ) (text : List ℕ) (status : Status)
+    : Type 0 where
   pub reads : List Read
   pub held : tells → AreHeld holds reads
   pub is_text : texts reads files text status
@@ -43,15 +45,16 @@ UsageCause (Faulty i) status = (status ≡ Usage i) ⊎ (status ≡ WriteFault)
 UsageCause line (Usage k) = ⊥
 UsageCause line status = Unit {0}
 
--- What is asked for can be done: every file has a reading within its limit, a number is that of an entry, and each command of a
--- session finds what it needs.
+-- What is asked for can be done: every file has a reading within its limit, a number is that of an entry, and each
+-- command of a session finds what it needs.
 abbrev pub CanBeDone : Asked → (List ℕ → List ℕ) → Type 0
 CanBeDone (Faulty i) holds = ⊥
 CanBeDone (ListOf names) holds = (readings : List Reading) × AreAccepted (map holds names) readings
 CanBeDone (ShowOf name number) holds =
     (readings : List Reading) × AreAccepted (holds name ∷ []) readings × (number < length (entries_of_all readings))
 CanBeDone (SelectOf topology names) holds =
-    (machine : Machine) × IsMachine (holds topology) machine × ((readings : List Reading) × AreAccepted (map holds names) readings)
+    (machine : Machine) × IsMachine (holds topology) machine
+    × ((readings : List Reading) × AreAccepted (map holds names) readings)
 CanBeDone (PlayOf topology script) holds =
     (machine : Machine) × IsMachine (holds topology) machine
     × ((stated : Stated) × IsScript (limits_of machine) (holds script) stated
@@ -60,10 +63,3 @@ CanBeDone (GenOf number) holds =
     (machine : Machine) × topology.States (generated.topology_text number) machine
     × ((stated : Stated) × States (limits_of machine) (generated.script_text number) stated
     × CanBePlayed (setting_of machine stated) stated.commands (bundle number))
-
--- where it can be done, a text of held reads is that of a run that did all, or of one in which a read failed
-abbrev pub DoneWhereItCan : Type 0
-DoneWhereItCan =
-    (line : Asked) (holds : List ℕ → List ℕ) (reads : List Read) (files : Option ℕ) (text : List ℕ) (status : Status) →
-    CanBeDone line holds → AreHeld holds reads → AskedText line reads files text status →
-    (status ≡ Done) ⊎ (status ≡ ReadFault)

@@ -5,7 +5,8 @@
 --   play    the names of a topology and of a script
 --   gen     a number
 -- No name begins with a dash, and a number has one of the spellings of numbers.
-use Rattle.std.specs.Prelude.{ℕ, ◌+◌, ◌==◌, ◌&&◌, nat_lt, nat_le, Bool, true, false, not, List, [], ◌∷◌, Option, Some, None, is_some, if◌then◌else◌, codes}
+use Rattle.std.specs.Prelude.{ℕ, ◌+◌, ◌==◌, ◌&&◌, nat_lt, nat_le, Bool, true, false, not, if◌then◌else◌}
+use Rattle.std.specs.Prelude.{List, [], ◌∷◌, Option, Some, None, is_some, codes}
 use Rattle.std.specs.Str.{bytes_eq}
 use Rattle.uc_text.specs.Numbers.{number_of}
 use Rattle.tool_text.specs.declared.TheConstants.{MOST_FILES}
@@ -38,8 +39,8 @@ may_show index word =
 abbrev pub may_gen : ℕ → List ℕ → Bool
 may_gen index word = if index == 1 then is_some (number_of word) else false
 
--- The first word that may not stand at its index, the words being numbered from an index on; or, where they are fewer than
--- are wanted, the index behind the last.
+-- The first word that may not stand at its index, the words being numbered from an index on; or, where they are fewer
+-- than are wanted, the index behind the last.
 abbrev pub wrong_word : (ℕ → List ℕ → Bool) → ℕ → ℕ → List (List ℕ) → Option ℕ
 wrong_word may wanted index [] = if nat_lt index wanted then Some index else None
 wrong_word may wanted index (word ∷ words) =
@@ -70,12 +71,28 @@ abbrev pub gen_of : List (List ℕ) → Asked
 gen_of (number ∷ words) = GenOf (value_of (number_of number))
 gen_of words = Faulty 0
 
+-- the words behind each command
+abbrev pub list_asked : List (List ℕ) → Asked
+list_asked words = unless_wrong (wrong_word (may_name MOST_FILES) 2 1 words) (ListOf words)
+
+abbrev pub show_asked : List (List ℕ) → Asked
+show_asked words = unless_wrong (wrong_word may_show 3 1 words) (show_of words)
+
+abbrev pub select_asked : List (List ℕ) → Asked
+select_asked words = unless_wrong (wrong_word (may_name (1 + MOST_FILES)) 3 1 words) (select_of words)
+
+abbrev pub play_asked : List (List ℕ) → Asked
+play_asked words = unless_wrong (wrong_word (may_name 2) 3 1 words) (play_of words)
+
+abbrev pub gen_asked : List (List ℕ) → Asked
+gen_asked words = unless_wrong (wrong_word may_gen 2 1 words) (gen_of words)
+
 -- the words after the program's name
 abbrev pub asked : List (List ℕ) → Asked
 asked [] = Faulty 0
 asked (command ∷ words) =
-    if bytes_eq command (codes "list") then unless_wrong (wrong_word (may_name MOST_FILES) 2 1 words) (ListOf words) else
-    if bytes_eq command (codes "show") then unless_wrong (wrong_word may_show 3 1 words) (show_of words) else
-    if bytes_eq command (codes "select") then unless_wrong (wrong_word (may_name (1 + MOST_FILES)) 3 1 words) (select_of words) else
-    if bytes_eq command (codes "play") then unless_wrong (wrong_word (may_name 2) 3 1 words) (play_of words) else
-    if bytes_eq command (codes "gen") then unless_wrong (wrong_word may_gen 2 1 words) (gen_of words) else Faulty 0
+    if bytes_eq command (codes "list") then list_asked words else
+    if bytes_eq command (codes "show") then show_asked words else
+    if bytes_eq command (codes "select") then select_asked words else
+    if bytes_eq command (codes "play") then play_asked words else
+    if bytes_eq command (codes "gen") then gen_asked words else Faulty 0

@@ -14,9 +14,10 @@ use Rattle.file_reads.specs.Reads.{Read, NotRead, Refused, ReadsOf}
 use Rattle.file_reads.proofs.Outcomes.{held_nil, held_one}
 use Rattle.tool_text.specs.Words.{Asked}
 use Rattle.tool_text.specs.Commands.{FailsAt}
-use Rattle.tool_text.specs.Tool.{AskedText, FromReads, CanBeDone, DoneWhereItCan}
-use Rattle.tool_text.proofs.SomeText.{whether_told}
-use Rattle.tool_text.proofs.Complete.{IsEnd}
+use Rattle.tool_text.specs.Tool.{AskedText, FromReads, CanBeDone}
+use Rattle.tool_laws.specs.Laws.{DoneWhereItCan}
+use Rattle.tool_laws.proofs.SomeText.{whether_told}
+use Rattle.tool_laws.proofs.Complete.{IsEnd}
 use Rattle.uc_cli.specs.Reading.{AreUpdatesRead, IsTopologyRead}
 use Rattle.uc_cli.specs.Refusal.{line_of, status_of}
 use Rattle.uc_cli.specs.declared.refusal.Refusal.{Refusal}

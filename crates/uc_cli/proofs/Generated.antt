@@ -26,7 +26,7 @@ use Rattle.session_steps.specs.Calls.{Outside, HeldWhere, Surroundings}
 use Rattle.session_steps.specs.Whole.{PlaysWhole, IsPlayedThrough}
 use Rattle.command_laws.specs.Steps.{SessionsExist}
 use Rattle.tool_text.specs.Plays.{limits_of, setting_of, bundle, IsGenerated}
-use Rattle.tool_text.proofs.SomePlay.{limits_are}
+use Rattle.tool_laws.proofs.SomePlay.{limits_are}
 use Rattle.uc_cli.specs.Generating.{WasPlayed}
 
 -- ---- the bundle

@@ -6,8 +6,9 @@ use Rattle.top_call.specs.Written.{Written, WroteText, StartsText}
 use Rattle.file_reads.specs.Reads.{Read}
 use Rattle.tool_text.specs.Words.{Asked}
 use Rattle.tool_text.specs.Tool.{AskedText, FromReads}
-use Rattle.tool_text.specs.Headline.{HoldingText, TextsHold}
-use Rattle.tool_text.specs.Ends.{CausedText, TextsHaveCauses}
+use Rattle.tool_text.specs.Headline.{HoldingText}
+use Rattle.tool_text.specs.Ends.{CausedText}
+use Rattle.tool_laws.specs.Laws.{TextsHold, TextsHaveCauses}
 
 module _ {D : Type 0} (texts others : Option ℕ → List ℕ → Status → Type 0) (rose : Type 0) (stands : D → List ℕ → Type 0)
     (old new : D)

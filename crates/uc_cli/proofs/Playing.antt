@@ -25,7 +25,7 @@ use Rattle.top_call.specs.Causes.{ReadCause}
 use Rattle.top_call.specs.Written.{memory_line, GoesWith, HasText, WroteText, StartsText, Written, Ends}
 use Rattle.tool_text.specs.Plays.{limits_of, setting_of, status_of, unread_after, PlayText}
 use Rattle.tool_text.specs.Tool.{FromReads}
-use Rattle.tool_text.proofs.SomeText.{whether_told}
+use Rattle.tool_laws.proofs.SomeText.{whether_told}
 use Rattle.uc_cli.specs.Playing.{IsEnded}
 use Rattle.uc_cli.specs.Reading.{IsScriptRead}
 use Rattle.uc_cli.specs.Refusal as refusals

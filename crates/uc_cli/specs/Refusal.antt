@@ -6,7 +6,8 @@ use Rattle.top_call.specs.Written.{memory_line}
 use Rattle.report_text.specs.Lines.{unread_line, fault_line, topology_line, no_entry_line}
 use Rattle.script_text.specs.Lines.{script_line}
 use Rattle.uc_cli.specs.declared.refusal.Refusal.{Refusal}
-use Rattle.uc_cli.specs.declared.refusal.Refusal.TheVariants.{Unread, BadFile, BadTopology, BadScript, NoEntry, NoMemory}
+use Rattle.uc_cli.specs.declared.refusal.Refusal.TheVariants.{Unread, BadFile, BadTopology, BadScript}
+use Rattle.uc_cli.specs.declared.refusal.Refusal.TheVariants.{NoEntry, NoMemory}
 
 -- what is written of a refusal
 abbrev pub line_of : Refusal → List ℕ

@@ -14,7 +14,7 @@ use gen_laws::{generated_script_is_read, generated_texts_are_short, generated_to
 use script_text::Script;
 use session_text::SessionAnswer;
 use std::alloc::Global;
-use tool_text::some_session_text;
+use tool_laws::some_session_text;
 use top_call::{Status, after_write};
 use uc_bytes::NoMemory;
 use uc_gen::{TallySink, make_intel, make_script, make_topology};

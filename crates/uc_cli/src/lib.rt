@@ -21,6 +21,3 @@ pub use refusal::{Refusal, refuse};
 pub use tool::run_tool;
 pub use top_call::Status;
 pub use words::is_name;
-
-#[cfg(test)]
-mod tests;

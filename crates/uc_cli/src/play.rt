@@ -13,7 +13,7 @@ use crate::refusal::{Refusal, refuse};
 use ctl_core::Scheduled;
 use session_text::SessionAnswer;
 use std::alloc::Global;
-use tool_text::some_session_text;
+use tool_laws::some_session_text;
 use top_call::Status;
 use uc_bytes::Text;
 use uc_io::{Files, Sink};

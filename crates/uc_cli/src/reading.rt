@@ -16,8 +16,8 @@ use uc_script::{ScriptAnswer, read_script};
 use uc_topology::{TopoCause, TopoFault, Topology, read_topology};
 use update_reads::{FilesAnswer, PIECE, read_files};
 
-/// Reads the update files of names, at most 16, one after another into a catalogue that is empty yet. The first that is not
-/// read or has no reading decides, and no later one is opened.
+/// Reads the update files of names, at most 16, one after another into a catalogue that is empty yet. The first that is
+/// not read or has no reading decides, and no later one is opened.
 pub fn read_updates<'a, F: Files>(
     alloc: Global,
     catalog: Catalog,
@@ -26,7 +26,8 @@ pub fn read_updates<'a, F: Files>(
 ) -> Result<Catalog, Refusal<'a>>
     requires few { length names.now ≤ 16 }
     requires empty { catalog ≡ no_files catalog.keeps }
-    ensures answer { AreUpdatesRead (F.tells files.old) names.now (F.holds files.old) (F.faults files.old) (F.faults files.new) result }
+    ensures answer { AreUpdatesRead
+        (F.tells files.old) names.now (F.holds files.old) (F.faults files.old) (F.faults files.new) result }
     ensures keeps { IfOk result (λ read. read.keeps ≡ catalog.keeps) }
     ensures same { F.holds files.new ≡ F.holds files.old }
     ensures still { F.tells files.old → F.tells files.new }
@@ -48,7 +49,8 @@ pub fn read_machine<'a, F: Files>(
     name: &'a Text,
     files: &mut F,
 ) -> Result<Topology, Refusal<'a>>
-    ensures answer { IsTopologyRead (F.tells files.old) name.now (F.holds files.old name.now) (F.faults files.old) (F.faults files.new) result }
+    ensures answer { IsTopologyRead
+        (F.tells files.old) name.now (F.holds files.old name.now) (F.faults files.old) (F.faults files.new) result }
     ensures same { F.holds files.new ≡ F.holds files.old }
     ensures still { F.tells files.old → F.tells files.new }
     ensures later { F.faults files.old ≤ F.faults files.new }
@@ -77,7 +79,8 @@ pub fn read_commands<'a, F: Files>(
     machine: &Topology,
     files: &mut F,
 ) -> Result<Script, Refusal<'a>>
-    ensures answer { IsScriptRead (F.tells files.old) (limits_of machine.now) name.now (F.holds files.old name.now) (F.faults files.old) (F.faults files.new) result }
+    ensures answer { IsScriptRead (F.tells files.old) (limits_of machine.now)
+        name.now (F.holds files.old name.now) (F.faults files.old) (F.faults files.new) result }
     ensures same { F.holds files.new ≡ F.holds files.old }
     ensures still { F.tells files.old → F.tells files.new }
     ensures later { F.faults files.old ≤ F.faults files.new }

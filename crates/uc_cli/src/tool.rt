@@ -20,7 +20,7 @@ use crate::show::show;
 use crate::words::{Command, read_words};
 use sleep_laws::a_resume_brings_back;
 use std::alloc::Global;
-use tool_text::{done_where_it_can_be, each_text_has_its_cause, each_text_holds};
+use tool_laws::{done_where_it_can_be, each_text_has_its_cause, each_text_holds};
 use top_call::{Status, after_write};
 use uc_bytes::Text;
 use uc_io::{Files, Sink};

@@ -1,6 +1,7 @@
 //! The rule of the command line.
 ghost use Rattle.std.specs.Prelude.{◌≡◌, ◌+◌, ◌≤◌, ◌<◌, Ok, Err, IfOk};
-ghost use Rattle.tool_text.specs.Words.{ListOf, asked, is_name, may_name, may_show, may_gen, wrong_word, unless_wrong, show_of, select_of, play_of, gen_of};
+ghost use Rattle.tool_text.specs.Words.{asked, list_asked, show_asked, select_asked, play_asked, gen_asked};
+ghost use Rattle.tool_text.specs.Words.{is_name, may_name, wrong_word};
 ghost use Rattle.uc_cli.specs.Words.{Asks, HasFewNames};
 
 use tool_text::MOST_FILES;
@@ -51,7 +52,7 @@ fn wrong_name(words: &[Text], first: u32, last: u32) -> Option<u32>
 
 /// The words behind `list`.
 fn list_words(words: &[Text]) -> Result<Command<'_>, u32>
-    ensures asks { Asks (unless_wrong (wrong_word (may_name MOST_FILES) 2 1 words.now) (ListOf words.now)) result }
+    ensures asks { Asks (list_asked words.now) result }
     ensures few { IfOk result HasFewNames }
 {
     match wrong_name(words, 1, MOST_FILES) {
@@ -62,7 +63,7 @@ fn list_words(words: &[Text]) -> Result<Command<'_>, u32>
 
 /// The words behind `show`.
 fn show_words(words: &[Text]) -> Result<Command<'_>, u32>
-    ensures asks { Asks (unless_wrong (wrong_word may_show 3 1 words.now) (show_of words.now)) result }
+    ensures asks { Asks (show_asked words.now) result }
     ensures few { IfOk result HasFewNames }
 {
     match words {
@@ -84,7 +85,7 @@ fn show_words(words: &[Text]) -> Result<Command<'_>, u32>
 
 /// The words behind `select`.
 fn select_words(words: &[Text]) -> Result<Command<'_>, u32>
-    ensures asks { Asks (unless_wrong (wrong_word (may_name (1 + MOST_FILES)) 3 1 words.now) (select_of words.now)) result }
+    ensures asks { Asks (select_asked words.now) result }
     ensures few { IfOk result HasFewNames }
 {
     let [topology, names @ ..] = words else {
@@ -101,7 +102,7 @@ fn select_words(words: &[Text]) -> Result<Command<'_>, u32>
 
 /// The words behind `play`.
 fn play_words(words: &[Text]) -> Result<Command<'_>, u32>
-    ensures asks { Asks (unless_wrong (wrong_word (may_name 2) 3 1 words.now) (play_of words.now)) result }
+    ensures asks { Asks (play_asked words.now) result }
     ensures few { IfOk result HasFewNames }
 {
     match words {
@@ -121,7 +122,7 @@ fn play_words(words: &[Text]) -> Result<Command<'_>, u32>
 
 /// The words behind `gen`.
 fn gen_words(words: &[Text]) -> Result<Command<'_>, u32>
-    ensures asks { Asks (unless_wrong (wrong_word may_gen 2 1 words.now) (gen_of words.now)) result }
+    ensures asks { Asks (gen_asked words.now) result }
     ensures few { IfOk result HasFewNames }
 {
     let [spelling, more @ ..] = words else {
@@ -139,8 +140,8 @@ fn gen_words(words: &[Text]) -> Result<Command<'_>, u32>
     }
 }
 
-/// The command that the words ask for, or the index of the first word that cannot stand in its place, which is the number
-/// of words where one is missing.
+/// The command that the words ask for, or the index of the first word that cannot stand in its place, which is the
+/// number of words where one is missing.
 pub fn read_words(words: &[Text]) -> Result<Command<'_>, u32>
     ensures asks { Asks (asked words.now) result }
     ensures few { IfOk result HasFewNames }

@@ -1,7 +1,8 @@
 //! The lines of errors, each composed in one piece.
 ghost use Rattle.std.specs.Prelude.{◌≡◌, ◌≤◌, length};
 ghost use Rattle.uc_io.specs.Writing.{Writes};
-ghost use Rattle.report_text.specs.Lines.{usage_line, unread_line, fault_line, topology_line, no_entry_line, cause_text, topo_cause_text};
+ghost use Rattle.report_text.specs.Lines.{usage_line, unread_line, fault_line, topology_line, no_entry_line};
+ghost use Rattle.report_text.specs.Lines.{cause_text, topo_cause_text};
 ghost use Rattle.uc_report.specs.Names.{cause_name};
 
 use arrayvec::ArrayVec;

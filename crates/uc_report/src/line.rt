@@ -1,6 +1,6 @@
-//! A line that is composed from its end, one text before another: so each number is written where it stays, however many
-//! digits it has. The line is lent and not handed out: one that is returned would be copied, and the copy would wait for
-//! the bytes that were stored just before.
+//! A line that is composed from its end, one text before another: so each number is written where it stays, however
+//! many digits it has. The line is lent and not handed out: one that is returned would be copied, and the copy would
+//! wait for the bytes that were stored just before.
 ghost use Rattle.std.specs.Prelude.{◌≤◌};
 
 use itoa::write_digits;

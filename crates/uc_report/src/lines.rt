@@ -1,7 +1,9 @@
 //! The lines on files, their entries and what a core is offered, each composed in one piece.
 ghost use Rattle.std.specs.Prelude.{◌≡◌, ◌+◌, ◌≤◌, ◌++◌, ℕ, List, [], length};
 ghost use Rattle.uc_io.specs.Writing.{Writes};
-ghost use Rattle.report_text.specs.Lines.{file_line, update_line, patch_line, pair_line, sig_line, offer_line, no_offer_line, vendor_text, digit_pair, day_text, min_text, safe_text, IsDateText};
+ghost use Rattle.report_text.specs.Lines.{file_line, update_line, patch_line, pair_line, sig_line, offer_line};
+ghost use Rattle.report_text.specs.Lines.{no_offer_line, vendor_text, digit_pair, day_text, min_text, safe_text};
+ghost use Rattle.report_text.specs.Lines.{IsDateText};
 ghost use Rattle.report_text.specs.Listing.{AreDateTexts, entry_line};
 
 use crate::line::Line;

@@ -15,7 +15,8 @@ use uc_io::{Sink, SinkFailed};
 /// Writes the lines on the pairs in the table of an update: its header's pair, the first, has none.
 fn put_pairs<S: Sink>(out: &mut S, catalog: &Catalog, i: u32) -> Result<(), SinkFailed>
     requires { i < length catalog.now.entries }
-    ensures { Writes S.stands S.faults out.old out.new (flat_map pair_line (drop 1 (entry_at catalog.now i).pairs)) result }
+    ensures { Writes S.stands S.faults out.old out.new
+        (flat_map pair_line (drop 1 (entry_at catalog.now i).pairs)) result }
 {
     'pairs: for k in 1..catalog.pairs(i) {
         let (sig, flags) = catalog.pair(i, k);
@@ -37,8 +38,8 @@ fn put_sigs<S: Sink>(out: &mut S, catalog: &Catalog, i: u32) -> Result<(), SinkF
     Ok(())
 }
 
-/// Writes the same of an entry with this id: nothing where that is 0, as it is of each update. So an update is not looked
-/// up in vain.
+/// Writes the same of an entry with this id: nothing where that is 0, as it is of each update. So an update is not
+/// looked up in vain.
 fn put_sigs_by_id<S: Sink>(
     out: &mut S,
     catalog: &Catalog,
@@ -59,7 +60,8 @@ fn put_sigs_by_id<S: Sink>(
 /// Writes the lines on an entry: its own, and those on its table's pairs or its signatures.
 fn put_entry<S: Sink>(out: &mut S, catalog: &Catalog, i: u32) -> Result<(), SinkFailed>
     requires { i < length catalog.now.entries }
-    ensures { (date_text : ℕ → List ℕ) → AreDateTexts date_text → Writes S.stands S.faults out.old out.new (entry_text date_text i (entry_at catalog.now i)) result }
+    ensures { (date_text : ℕ → List ℕ) → AreDateTexts date_text →
+        Writes S.stands S.faults out.old out.new (entry_text date_text i (entry_at catalog.now i)) result }
 {
     let facts = catalog.entry(i);
     put_entry_line(out, i, &facts)?;
@@ -76,7 +78,8 @@ fn put_entries<S: Sink>(
 ) -> Result<(), SinkFailed>
     requires order { first ≤ end }
     requires within { end ≤ length catalog.now.entries }
-    ensures { (date_text : ℕ → List ℕ) → AreDateTexts date_text → Writes S.stands S.faults out.old out.new (entries_text date_text first (take (end - first) (drop first catalog.now.entries))) result }
+    ensures { (date_text : ℕ → List ℕ) → AreDateTexts date_text → Writes S.stands S.faults out.old out.new
+        (entries_text date_text first (take (end - first) (drop first catalog.now.entries))) result }
 {
     'entries: for i in first..end {
         put_entry(out, catalog, i)?;
@@ -96,17 +99,22 @@ fn put_file_entries<S: Sink>(
     requires file { file < length catalog.now.files }
     requires order { first ≤ end }
     requires within { end ≤ length catalog.now.entries }
-    ensures { (date_text : ℕ → List ℕ) (reading : Reading) → AreDateTexts date_text → file_at catalog.now file ≡ sum_of reading → take (end - first) (drop first catalog.now.entries) ≡ map (kept catalog.now.keeps) (entries_of file reading) → Writes S.stands S.faults out.old out.new (file_text date_text file first name.now reading) result }
+    ensures { (date_text : ℕ → List ℕ) (reading : Reading) → AreDateTexts date_text →
+        file_at catalog.now file ≡ sum_of reading →
+        take (end - first) (drop first catalog.now.entries) ≡ map (kept catalog.now.keeps) (entries_of file reading) →
+        Writes S.stands S.faults out.old out.new (file_text date_text file first name.now reading) result }
 {
     put_file(out, file, name, catalog.vendor_of(file), end - first)?;
     put_entries(out, catalog, first, end)
 }
 
-/// Writes the lines on the files of a catalogue, which have these names, and on their entries, all of which are numbered
-/// from 0 on. It takes no memory.
+/// Writes the lines on the files of a catalogue, which have these names, and on their entries, all of which are
+/// numbered from 0 on. It takes no memory.
 pub fn put_list<S: Sink>(out: &mut S, catalog: &Catalog, names: &[Text]) -> Result<(), SinkFailed>
     requires { length names.now ≡ length catalog.now.files }
-    ensures { (date_text : ℕ → List ℕ) (readings : List Reading) → AreDateTexts date_text → IsOfReadings catalog.now readings → Writes S.stands S.faults out.old out.new (files_text date_text 0 0 names.now readings) result }
+    ensures { (date_text : ℕ → List ℕ) (readings : List Reading) → AreDateTexts date_text →
+        IsOfReadings catalog.now readings →
+        Writes S.stands S.faults out.old out.new (files_text date_text 0 0 names.now readings) result }
 {
     let mut first = 0;
     'files: for file in 0..catalog.files() {

@@ -19,7 +19,8 @@ fn put_core<S: Sink>(
     offer: Option<u32>,
 ) -> Result<(), SinkFailed>
     requires { IfSome offer (λ number. number < length catalog.now.entries) }
-    ensures { Writes S.stands S.faults out.old out.new (line_of_offer (λ n. (entry_at catalog.now n).facts) core rev offer) result }
+    ensures { Writes S.stands S.faults out.old out.new
+        (line_of_offer (λ n. (entry_at catalog.now n).facts) core rev offer) result }
 {
     match offer {
         Some(number) => put_offer(out, core, rev, number, &catalog.entry(number)),
@@ -37,7 +38,8 @@ pub fn put_offers<S: Sink>(
 ) -> Result<(), SinkFailed>
     requires count { length offers.now ≡ group_count topology.now.stated.cores }
     requires within { All (λ offer. IfSome offer (λ number. number < length catalog.now.entries)) offers.now }
-    ensures { Writes S.stands S.faults out.old out.new (offers_text topology.now (λ n. (entry_at catalog.now n).facts) offers.now) result }
+    ensures { Writes S.stands S.faults out.old out.new
+        (offers_text topology.now (λ n. (entry_at catalog.now n).facts) offers.now) result }
 {
     'cores: for core in 0..topology.cores() {
         let group = topology.group_of_core(core);

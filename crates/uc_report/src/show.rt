@@ -38,7 +38,8 @@ fn put_bytes<S: Sink>(out: &mut S, bytes: &[u8]) -> Result<(), SinkFailed>
 pub fn put_show<S: Sink>(out: &mut S, catalog: &Catalog, i: u32) -> Result<(), SinkFailed>
     requires entry { i < length catalog.now.entries }
     requires keeps { IsTrue catalog.now.keeps }
-    ensures { (date_text : ℕ → List ℕ) → AreDateTexts date_text → Writes S.stands S.faults out.old out.new (show_text date_text i (entry_at catalog.now i)) result }
+    ensures { (date_text : ℕ → List ℕ) → AreDateTexts date_text →
+        Writes S.stands S.faults out.old out.new (show_text date_text i (entry_at catalog.now i)) result }
 {
     put_entry_line(out, i, &catalog.entry(i))?;
     put_bytes(out, catalog.bytes_of(i))

@@ -1,6 +1,6 @@
-//! The program `ucode`: it hands the words of its command line, the host's files and standard output to `run_tool`, hands
-//! on what standard output still holds, says on standard error why a run could not do what it was asked, and ends with the
-//! exit status that comes of it.
+//! The program `ucode`: it hands the words of its command line, the host's files and standard output to `run_tool`,
+//! hands on what standard output still holds, says on standard error why a run could not do what it was asked, and ends
+//! with the exit status that comes of it.
 #![tactic(auto)]
 
 use main_parts::{Speaker, words};

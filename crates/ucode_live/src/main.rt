@@ -1,6 +1,6 @@
 //! The program `ucode_live`: it hands the words of its command line, the host's files, standard output and a live
-//! rendezvous with an open gate to `run_live`, hands on what standard output still holds, says on standard error why a run
-//! could not do what it was asked, and ends with the exit status that comes of it.
+//! rendezvous with an open gate to `run_live`, hands on what standard output still holds, says on standard error why a
+//! run could not do what it was asked, and ends with the exit status that comes of it.
 #![tactic(auto)]
 
 use live_cli::{PromptOut, Status, run_live};

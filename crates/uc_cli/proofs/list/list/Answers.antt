@@ -5,7 +5,7 @@ use Rattle.file_reads.specs.Reads.{AllRead, NotRead, Refused}
 use Rattle.report_text.specs.Listing.{files_text}
 use Rattle.tool_text.specs.Commands.{ListText}
 use Rattle.tool_text.specs.Tool.{FromReads}
-use Rattle.tool_text.proofs.SomeText.{date_text_of, are_date_texts, list_text, whether_told}
+use Rattle.tool_laws.proofs.SomeText.{date_text_of, are_date_texts, list_text, whether_told}
 use Rattle.uc_cli.proofs.Endings.{done_written, files_refused}
 use Rattle.update_reads.proofs.Files.{files_count}
 use Rattle.uc_cli.proofs.list.list.Goals as goal

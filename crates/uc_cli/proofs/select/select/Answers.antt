@@ -7,7 +7,7 @@ use Rattle.file_reads.proofs.Outcomes.{held_cons}
 use Rattle.report_text.specs.Offers.{offers_text}
 use Rattle.tool_text.specs.Commands.{SelectText, facts_at, entries_of_all}
 use Rattle.tool_text.specs.Tool.{FromReads}
-use Rattle.tool_text.proofs.SomeText.{select_text, whether_told}
+use Rattle.tool_laws.proofs.SomeText.{select_text, whether_told}
 use Rattle.uc_cli.specs.Reading.{AreUpdatesRead}
 use Rattle.uc_cli.specs.Selecting.{PutsOffers}
 use Rattle.uc_cli.proofs.Groups.{puts_kept}

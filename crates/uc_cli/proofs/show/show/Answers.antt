@@ -10,7 +10,7 @@ use Rattle.report_text.specs.Lines.{no_entry_line}
 use Rattle.report_text.specs.Show.{show_text}
 use Rattle.tool_text.specs.Commands.{ShowText, entries_of_all}
 use Rattle.tool_text.specs.Tool.{FromReads}
-use Rattle.tool_text.proofs.SomeText.{date_text_of, are_date_texts, show_text_of, whether_told}
+use Rattle.tool_laws.proofs.SomeText.{date_text_of, are_date_texts, show_text_of, whether_told}
 use Rattle.update_reads.specs.Reading.{IsOfFiles}
 use Rattle.update_reads.proofs.Files.{all_entries}
 use Rattle.uc_cli.specs.Reading.{AreUpdatesRead}

@@ -1,0 +1,18 @@
+use Rattle.item_text.specs.Items.{item_line}
+use Rattle.tool_laws.proofs.Texts.{texts_hold}
+use Rattle.tool_laws.proofs.each_text_holds.Goals as goal
+
+pub returns : goal.returns
+returns c = texts_hold
+    (record {
+      runs = c.each_run_holds.ensures.runs;
+      moments = c.each_run_holds.ensures.moments;
+      ended = c.the_end_is_unlisted.ensures;
+      grows = λ lists. c.a_run_lowers_no_revision.ensures item_line lists;
+      falls = c.only_a_suspend_lets_a_revision_fall.ensures;
+      leave = c.what_a_load_leaves.ensures;
+      opening = c.each_state_stands.ensures.opening;
+      stand = c.each_state_stands.ensures.steps;
+      boots_lend = c.each_offer_is_lent.ensures.boot;
+      loads_lend = c.each_offer_is_lent.ensures.load;
+    })

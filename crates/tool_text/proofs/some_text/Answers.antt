@@ -1,5 +1,0 @@
-use Rattle.tool_text.proofs.SomeText.{tool_text}
-use Rattle.tool_text.proofs.some_text.Goals as goal
-
-pub returns : goal.returns
-returns c = tool_text c.some_session_text.ensures.played c.some_session_text.ensures.generated
