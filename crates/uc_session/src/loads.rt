@@ -24,7 +24,6 @@ use crate::rooms::Room;
 use crate::setting_out::{Stop, set_out};
 use crate::verdicts::verdict;
 use command_laws::each_command_does_something;
-use ctl_core::{Outcome, Rendezvous, RunAnswer};
 use ctl_words::{Plan, tables_end};
 use play_laws::each_event_keeps_the_rule;
 use rendezvous_steps::Beat;
@@ -36,6 +35,7 @@ use std::alloc::Global;
 use uc_bytes::Text;
 use uc_catalog::Catalog;
 use uc_io::{Files, Sink, SinkFailed};
+use uc_rendezvous::{Outcome, Rendezvous, RunAnswer};
 use uc_topology::Topology;
 
 /// Writes what a load offers, lets the threads of its plan meet, and makes the outcome the one that they come to.

@@ -22,7 +22,6 @@ use crate::loads::play_load;
 use crate::plain::act;
 use crate::rooms::Room;
 use command_laws::each_command_does_something;
-use ctl_core::Rendezvous;
 use script_text::Command;
 use session_parts::Parts;
 use session_report::put_heading;
@@ -30,6 +29,7 @@ use session_text::{LoadAnswer, Played};
 use std::alloc::Global;
 use uc_bytes::{NoMemory, Text};
 use uc_io::{Files, Sink};
+use uc_rendezvous::Rendezvous;
 use update_reads::PIECE;
 
 /// Writes the threads that came up, and the answer of a command with these names of files.

@@ -1,9 +1,9 @@
 //! What is lent to each command.
 
-use ctl_core::Outcome;
 use session_parts::LoadTables;
 use std::alloc::Global;
 use uc_bytes::NoMemory;
+use uc_rendezvous::Outcome;
 use update_reads::PIECE;
 
 /// What is lent to each command, so that none has to make it. What it holds between two commands means nothing.

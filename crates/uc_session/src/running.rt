@@ -8,13 +8,13 @@ ghost use Rattle.session_steps.specs.Whole.{IsPlayedThrough, SinkCauseAt};
 
 use crate::sessions::Session;
 use command_laws::each_command_does_something;
-use ctl_core::Rendezvous;
 use cut_laws::begun_commands_go_on;
 use script_text::Script;
 use session_laws::each_state_stands;
 use session_text::{CommandAnswer, LoadAnswer, Played, SessionAnswer};
 use std::alloc::Global;
 use uc_io::{Files, Sink};
+use uc_rendezvous::Rendezvous;
 use uc_topology::Topology;
 
 /// What a session answers that this answer of a command ends; nothing where the session goes on.

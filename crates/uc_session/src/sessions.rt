@@ -13,7 +13,6 @@ ghost use Rattle.session_parts.specs.Parts.{setting_of as parts_setting, state_o
 
 use crate::playing::play;
 use crate::rooms::Room;
-use ctl_core::Rendezvous;
 use hw_machine::{Power, ThreadState};
 use patch_pool::{PatchId, PatchPool};
 use script_text::Command;
@@ -23,6 +22,7 @@ use session_text::Played;
 use std::alloc::Global;
 use uc_bytes::NoMemory;
 use uc_io::{Files, Sink};
+use uc_rendezvous::Rendezvous;
 use uc_topology::Topology;
 
 /// A session on the machine that a topology states: the machine, the region of patches, and what each group caches.

@@ -7,10 +7,10 @@ ghost use Rattle.ctl_words.specs.Plans.{plan_of};
 ghost use Rattle.uc_rendezvous.specs.Outcomes.{outcome_of};
 ghost use Rattle.uc_session.specs.Verdicts.{answered, passes, IsVerdict};
 
-use ctl_core::Outcome;
 use ctl_words::Plan;
 use rendezvous_steps::{End, ThreadResult};
 use session_text::LoadAnswer;
+use uc_rendezvous::Outcome;
 
 /// What is looked for among the ends of threads.
 #[derive(Clone, Copy, Debug, PartialEq, Eq)]

@@ -1,4 +1,4 @@
-use Rattle.item_text.specs.Items.{item_line}
+use Rattle.rendezvous_steps.specs.ItemText.{item_line}
 use Rattle.tool_laws.proofs.Texts.{texts_hold}
 use Rattle.tool_laws.proofs.each_text_holds.Goals as goal
 

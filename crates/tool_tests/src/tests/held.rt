@@ -6,13 +6,13 @@ ghost use Rattle.play_laws.proofs.Exist.{always_runs as runs_always, ran_grows};
 ghost use Rattle.uc_live.specs.Runs.{runs_of};
 
 use super::*;
-use ctl_core::{Outcome, Plan, Rendezvous, RunAnswer};
 use rendezvous_steps::Beat;
 use std::sync::Wait;
 use std::sync::atomic::{AtomicBool, Ordering};
 use std::thread::{Threads, yield_now};
 use uc_io::Sink;
 use uc_live::{Gate, LiveRun, Point};
+use uc_rendezvous::{Outcome, Plan, Rendezvous, RunAnswer};
 
 /// How often a worker that is held looks at most, so that no test can hang.
 const TURNS: u32 = 10_000_000;

@@ -4,10 +4,10 @@ ghost use Rattle.rendezvous_steps.specs.ItemText.{item_line as line_of};
 ghost use Rattle.play_laws.proofs.Exist.{always_runs as runs_always, ran_grows};
 
 use super::*;
-use ctl_core::{Beat, Outcome, Plan, Rendezvous, RunAnswer};
 use session_text::SessionAnswer;
 use uc_cli::{read_commands, read_machine};
 use uc_io::Sink;
+use uc_rendezvous::{Beat, Outcome, Plan, Rendezvous, RunAnswer};
 use uc_session::run_session;
 
 /// Answers want of memory, and keeps the patience of the plan that it was given last.
