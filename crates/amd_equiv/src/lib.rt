@@ -7,6 +7,3 @@ mod table;
 
 pub use fault::EquivFault;
 pub use table::{AMD_MAGIC, EquivTable, read_equiv};
-
-#[cfg(test)]
-mod tests;

@@ -23,6 +23,3 @@ pub use file::read_amd;
 pub use parser::AmdParser;
 pub use part::{AmdHead, AmdPart, Taken};
 pub use stream::AmdStream;
-
-#[cfg(test)]
-mod tests;

@@ -20,6 +20,3 @@ pub use file_reader::FileReader;
 pub use patches::{PatchRow, PatchRows};
 pub use rows::FileRows;
 pub use updates::{UpdateRow, UpdateRows};
-
-#[cfg(test)]
-mod tests;

@@ -10,6 +10,3 @@ mod walk;
 pub use file::{IntelUpdate, read_intel};
 pub use stream::IntelStream;
 pub use walk::{Ended, IntelWalk, Took, What};
-
-#[cfg(test)]
-mod tests;

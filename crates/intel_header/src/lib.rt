@@ -7,6 +7,3 @@ mod header;
 pub use date::{date_of, day_of};
 pub use header::{HeaderFault, read_header};
 pub use intel_format::IntelHeader;
-
-#[cfg(test)]
-mod tests;

@@ -13,6 +13,3 @@ pub use words::{half_at, put_word, word_at, word_sum};
 
 /// The greatest length of an update file, in bytes.
 pub const FILE_LIMIT: u64 = 67_108_864;
-
-#[cfg(test)]
-mod tests;

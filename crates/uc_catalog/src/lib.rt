@@ -16,6 +16,3 @@ mod place;
 
 pub use catalog::Catalog;
 pub use file_entries::EntryFacts;
-
-#[cfg(test)]
-mod tests;

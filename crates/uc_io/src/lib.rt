@@ -26,8 +26,6 @@ pub use memory_files::MemFiles;
 pub use memory_sink::MemSink;
 pub use out_sink::OutSink;
 pub use pieces::{PieceFailed, Pieces};
+pub use reads::read_some;
 pub use sinks::{Sink, SinkFailed};
 pub use sure_files::SureFiles;
-
-#[cfg(test)]
-mod tests;

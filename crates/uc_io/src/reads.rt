@@ -64,7 +64,7 @@ pub(crate) fn read_whole<F: Read>(
 }
 
 /// One read, which is tried again where a signal interrupts it.
-pub(crate) fn read_some<F: Read>(file: &mut F, piece: &mut [u8]) -> io::Result<usize>
+pub fn read_some<F: Read>(file: &mut F, piece: &mut [u8]) -> io::Result<usize>
     ensures bound { IfOk result (λ taken. taken ≤ length piece.new) }
     ensures bytes { MatchResult result
         (λ taken. Consumes (F.remaining file.old) (F.remaining file.new) (take taken piece.new))

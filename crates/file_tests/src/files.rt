@@ -1,11 +1,11 @@
-use super::*;
-use crate::gathering::{BLOCK, gather, hand_on};
-use crate::reads::read_some;
-use arrayvec::ArrayVec;
+//! Files in memory that fail at a call, and files of the host.
 use std::alloc::{AllocError, Global};
-use std::io::{ErrorKind, Read, Write};
+use std::io::{ErrorKind, Read};
 use std::test::Fail;
 use std::{fs, io};
+use uc_io::{
+    Files, HostFiles, MemFiles, OpenAnswer, PieceFailed, Pieces, ReadAnswer, SureFiles, read_some,
+};
 
 /// How a read ended, without its bytes.
 #[derive(Clone, Copy, Debug, PartialEq, Eq)]
@@ -95,31 +95,6 @@ fn sure_files_hold_nothing_under_other_names(rt: HostRuntime) -> Result<(), Fail
         b"xyz".as_slice()
     );
     assert_eq!(rt; files.read(rt.alloc(), "b", 3)?.len(), 0);
-    Ok(())
-}
-
-#[test]
-fn a_sink_in_memory_cuts_what_does_not_fit(rt: HostRuntime) -> Result<(), Fail> {
-    let mut sink = MemSink::new(rt.alloc(), 6)?;
-    assert!(rt; write_line(&mut sink, &[b"on", b"e\n"]).is_ok());
-    assert!(rt; write_line(&mut sink, &[b"two\n"]).is_err());
-    assert!(rt; sink.write(b"").is_ok());
-    assert_eq!(rt; sink.bytes(), b"one\ntw".as_slice());
-    Ok(())
-}
-
-#[test]
-fn a_sink_in_memory_fails_at_the_write_that_is_named(rt: HostRuntime) -> Result<(), Fail> {
-    let table = [(0, "abc"), (1, "bc"), (2, "ac"), (3, "ab"), (4, "abc")];
-    for (write, wanted) in &table {
-        let mut sink = MemSink::new(rt.alloc(), 3)?;
-        sink.fail_at(3 - write.min(&3));
-        sink.fail_at(*write);
-        for piece in [b"a", b"b", b"c"] {
-            let _wrote = sink.write(piece);
-        }
-        assert_eq!(rt; sink.bytes(), wanted.as_bytes(), "at {write}");
-    }
     Ok(())
 }
 
@@ -215,112 +190,34 @@ fn nothing_is_open_after_a_read_or_a_refusal(rt: HostRuntime) -> Result<(), Fail
     Ok(())
 }
 
-/// Holds bytes up to its room, of which it takes and gives at most 1,000 at a time. Its first call is interrupted.
+/// Gives "xyz", two bytes at a time at most. Its first call is interrupted.
 #[derive(Drop)]
-struct Narrow {
-    held: Vec<u8>,
-    room: usize,
+struct Interrupted {
+    given: usize,
     was_interrupted: bool,
 }
 
-impl Narrow {
-    fn new(alloc: Global, room: usize) -> Narrow {
-        Narrow {
-            held: Vec::new(alloc),
-            room,
-            was_interrupted: false,
-        }
-    }
-
-    fn interrupt_once(&mut self) -> io::Result<()> {
-        if self.was_interrupted {
-            return Ok(());
-        }
-        self.was_interrupted = true;
-        Err(ErrorKind::Interrupted.into())
-    }
-}
-
-impl Write for Narrow {
-    fn write(&mut self, buf: &[u8]) -> io::Result<usize> {
-        self.interrupt_once()?;
-        let room = self.room.saturating_sub(self.held.len());
-        let taken = buf.len().min(room).min(1_000);
-        self.held.extend_from_slice(&buf[..taken])?;
-        Ok(taken)
-    }
-
-    fn flush(&mut self) -> io::Result<()> {
-        Ok(())
-    }
-}
-
-impl Read for Narrow {
+impl Read for Interrupted {
     fn read(&mut self, buf: &mut [u8]) -> io::Result<usize> {
-        self.interrupt_once()?;
-        let mut left = self.held.as_slice();
-        left.read(buf)
+        if !self.was_interrupted {
+            self.was_interrupted = true;
+            return Err(ErrorKind::Interrupted.into());
+        }
+        let mut left = b"xyz".as_slice().get(self.given..).unwrap_or(&[]);
+        let taken = left.read(buf)?;
+        self.given = self.given.saturating_add(taken);
+        Ok(taken)
     }
 }
 
 #[test]
 fn an_interrupted_read_is_tried_again(rt: HostRuntime) -> Result<(), Fail> {
-    let mut file = Narrow::new(rt.alloc(), 3);
-    file.held.extend_from_slice(b"xyz")?;
+    let mut file = Interrupted {
+        given: 0,
+        was_interrupted: false,
+    };
     let mut piece = [0; 2];
     assert!(rt; read_some(&mut file, &mut piece).is_ok_and(|taken| taken == 2));
     assert!(rt; piece == *b"xy");
-    Ok(())
-}
-
-#[test]
-fn what_is_not_written_is_held_and_tried_again(rt: HostRuntime) -> Result<(), Fail> {
-    let all = pattern(rt.alloc(), 200_000)?;
-    let mut to = Narrow::new(rt.alloc(), 70_001);
-    let mut held: ArrayVec<u8, BLOCK> = ArrayVec::new();
-    assert!(rt; gather(&mut to, &mut held, &all).is_err());
-    assert_eq!(rt; to.held.len(), 70_001);
-    let taken = to.held.len() + held.len();
-    assert!(rt; hand_on(&mut to, &mut held).is_err());
-    assert_eq!(rt; to.held.len() + held.len(), taken);
-    to.room = 200_000;
-    let behind = all.get(taken..).ok_or("more than all was taken")?;
-    assert!(rt; gather(&mut to, &mut held, behind).is_ok());
-    assert!(rt; hand_on(&mut to, &mut held).is_ok());
-    assert!(rt; to.held == all);
-    Ok(())
-}
-
-#[test]
-fn standard_output_takes_a_line(rt: HostRuntime) -> Result<(), Fail> {
-    let mut out = OutSink::new(io::writer(&rt));
-    assert!(rt; write_line(&mut out, &[b"answer ", b"done\n"]).is_ok());
-    assert!(rt; out.write(b"").is_ok());
-    assert!(rt; out.finish().is_ok());
-    assert!(rt; out.finish().is_ok());
-    Ok(())
-}
-
-#[test]
-fn bytes_are_written_in_blocks(rt: HostRuntime) -> Result<(), Fail> {
-    let all = pattern(rt.alloc(), 265_536)?;
-    let mut written = Vec::new(rt.alloc());
-    let mut held = ArrayVec::new();
-    let table = [
-        (0, 0, 0),
-        (65_535, 0, 65_535),
-        (65_536, 65_536, 0),
-        (265_536, 262_144, 3_392),
-    ];
-    let mut taken = 0;
-    for (end, wanted, left) in &table {
-        let piece = all.get(taken..*end).ok_or("past the end")?;
-        assert!(rt; gather(&mut written, &mut held, piece).is_ok());
-        assert_eq!(rt; written.len(), *wanted);
-        assert_eq!(rt; held.len(), *left);
-        taken = *end;
-    }
-    assert!(rt; hand_on(&mut written, &mut held).is_ok());
-    assert!(rt; written == all);
     Ok(())
 }

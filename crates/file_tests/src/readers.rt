@@ -1,4 +1,5 @@
-use super::*;
+//! Files of both vendors that are cut at each place.
+use file_rows::{FileReader, FileRows};
 use std::alloc::Global;
 use std::test::Fail;
 use uc_bytes::{FileAnswer, FileCause, FileFault};
