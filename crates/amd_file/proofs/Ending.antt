@@ -16,7 +16,7 @@ use Rattle.amd_file.specs.declared.progress.Stage.{Stage}
 use Rattle.amd_file.specs.declared.progress.Stage.TheVariants.{Head, Next, Rows, Tail, Header, Body, Failed}
 use Rattle.amd_file.specs.Stage.{want}
 use Rattle.amd_file.specs.Parsing.{Came, IsTableFront, IsSectionFront, IsInHead, IsInNext, IsInRows, IsInTail, IsInHeader, IsInBody, StandsAt, told_of}
-use Rattle.first_fault.proofs.Decided.{both, decided_le}
+use Rattle.fault_rule.proofs.Decided.{both, decided_le}
 use Rattle.std.proofs.lemmas.Bool.{cases_eq}
 use Rattle.amd_file.proofs.Coming.{came_as}
 use Rattle.amd_file.proofs.Units.{fault_behind}

@@ -6,7 +6,7 @@ use Rattle.amd_format.specs.Equiv.{amd_magic}
 use Rattle.uc_bytes.specs.declared.causes.FileCause.TheVariants as causes
 use Rattle.std.proofs.lemmas.Bool.{cases_eq}
 use Rattle.std.specs.Prelude.{Bool}
-use Rattle.first_fault.proofs.Search.{first_fails}
+use Rattle.fault_rule.proofs.Search.{first_fails}
 use Rattle.amd_format.specs.Checks.{EquivFails, equiv_checks, IsFirstEquivFault}
 use Rattle.amd_format.proofs.Begins.{at_least}
 use Rattle.amd_file.specs.declared.part.AmdPart.{AmdPart}

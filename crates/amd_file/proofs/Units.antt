@@ -2,7 +2,7 @@
 use Rattle.std.proofs.Common.{◌≡◌, ◌≢◌, ◌⊎◌, inl, inr, ℕ, ◌+◌, ◌-◌, ◌/◌, ◌%◌, ◌<◌, ◌≤◌, List, [], ◌∷◌, ◌++◌, length, drop, map, refl, sym, ◌∙◌, ap, subst, arith, append-nil, append_assoc, length-append, length-drop, IsTrue}
 use Rattle.std.specs.Prelude.{◌↔◌}
 use Rattle.std.proofs.lemmas.Bool.{cases_eq}
-use Rattle.first_fault.specs.Checks.{IsFirst}
+use Rattle.fault_rule.specs.Checks.{IsFirst}
 use Rattle.std.proofs.lemmas.List.{map-append, drop_at}
 use Rattle.uc_bytes.specs.Words.{word, half}
 use Rattle.uc_bytes.specs.declared.causes.FileCause.{FileCause}

@@ -3,7 +3,7 @@
 use Rattle.std.proofs.Common.{◌≡◌, ◌≢◌, inl, inr, ℕ, ◌+◌, ◌<◌, ◌≤◌, List, length, take, drop, sym, ◌∙◌, ap, subst, arith, length-drop, length-take-le}
 use Rattle.std.proofs.lemmas.Bool.{cases_lt, cases_eq}
 use Rattle.std.proofs.lemmas.List.{drop-take}
-use Rattle.first_fault.specs.Checks.{AllPass}
+use Rattle.fault_rule.specs.Checks.{AllPass}
 use Rattle.uc_bytes.proofs.Fronts.{word-take, half-take}
 use Rattle.uc_bytes.specs.Words.{word}
 use Rattle.amd_format.specs.Equiv.{IsEquiv, amd_magic}

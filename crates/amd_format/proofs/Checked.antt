@@ -1,9 +1,9 @@
 -- All checks of a container, or of a section, pass at bytes, or one is the first that fails.
 use Rattle.std.proofs.Common.{◌⊎◌, inr, ℕ, List}
 use Rattle.std.proofs.lemmas.Bool.{cases_eq}
-use Rattle.first_fault.specs.Checks.{AllPass}
-use Rattle.first_fault.proofs.Decided.{Decided, decided_not_equal, decided_lt, decided_le, either, both, three}
-use Rattle.first_fault.proofs.Search.{searched}
+use Rattle.fault_rule.specs.Checks.{AllPass}
+use Rattle.fault_rule.proofs.Decided.{Decided, decided_not_equal, decided_lt, decided_le, either, both, three}
+use Rattle.fault_rule.proofs.Search.{searched}
 use Rattle.uc_bytes.specs.declared.causes.FileCause.{FileCause}
 use Rattle.uc_bytes.specs.declared.causes.FileCause.TheVariants.{EquivShort, Magic, EquivType, TableSmall, TableCut, SectionShort, SectionType, PatchSmall, PatchCut, FamilySize, Chipset, TooMany}
 use Rattle.amd_format.specs.Patch.{PastBound}

@@ -1,7 +1,7 @@
 -- Bytes have a reading or a fault and never both, and at most one fault.
 use Rattle.std.proofs.Common.{◌≡◌, inl, inr, ℕ, ◌<◌, ◌≤◌, List, [], ◌∷◌, ◌++◌, length, take, drop, sym, ◌∙◌, ap, subst, arith, length-append, take-append-drop, length-take-le}
 use Rattle.std.proofs.lemmas.List.{take_all}
-use Rattle.first_fault.proofs.Search.{first_fails, one_first}
+use Rattle.fault_rule.proofs.Search.{first_fails, one_first}
 use Rattle.uc_bytes.specs.Words.{word}
 use Rattle.uc_bytes.specs.declared.causes.FileCause.{FileCause}
 use Rattle.amd_format.specs.File.{FileContainer, AreContainers, AmdFile, joined, patches_in}

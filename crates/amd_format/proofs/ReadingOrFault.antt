@@ -1,7 +1,7 @@
 -- Bytes have a reading or a fault.
 use Rattle.std.proofs.Common.{◌≡◌, ◌⊎◌, inl, inr, ⊎_elim, ℕ, zero, suc, ◌+◌, ◌<◌, ◌≤◌, List, [], ◌∷◌, ◌++◌, length, take, drop, sym, ◌∙◌, ap, subst, refl, arith, append-nil, append_assoc, length-append, length-take, length-drop, take-append-drop}
 use Rattle.std.proofs.lemmas.Bool.{cases_eq}
-use Rattle.first_fault.proofs.Decided.{both, decided_le}
+use Rattle.fault_rule.proofs.Decided.{both, decided_le}
 use Rattle.uc_bytes.specs.Words.{word}
 use Rattle.uc_bytes.specs.declared.causes.FileCause.{FileCause}
 use Rattle.amd_format.specs.Equiv.{IsEquiv, amd_magic}

@@ -2,8 +2,8 @@
 use Rattle.std.proofs.Common.{◌≡◌, ◌≢◌, inl, inr, ℕ, ◌+◌, ◌<◌, ◌≤◌, List, [], ◌∷◌, ◌++◌, length, sym, ◌∙◌, ap, subst, arith, append_assoc, length-append, length-drop}
 use Rattle.std.specs.Prelude.{◌⊎◌}
 use Rattle.std.proofs.lemmas.List.{drop-append-le}
-use Rattle.first_fault.proofs.Alike.{said_of_same, said_through, AreAlike, first_alike, pass_alike}
-use Rattle.first_fault.proofs.Search.{first_in_front, first_behind, front_or_behind}
+use Rattle.fault_rule.proofs.Alike.{said_of_same, said_through, AreAlike, first_alike, pass_alike}
+use Rattle.fault_rule.proofs.Search.{first_in_front, first_behind, front_or_behind}
 use Rattle.uc_bytes.specs.Words.{word}
 use Rattle.uc_bytes.specs.declared.causes.FileCause.{FileCause}
 use Rattle.uc_bytes.specs.declared.causes.FileCause.TheVariants.{EquivShort, Magic, EquivType, TableSmall, TableCut, SectionShort, SectionType, PatchSmall, PatchCut, FamilySize, Chipset, TooMany}

@@ -1,6 +1,6 @@
 -- The checks of a file, in their order. The first that fails is the fault.
 use Rattle.std.specs.Prelude.{◌≡◌, ◌≢◌, ◌⊎◌, ℕ, ◌+◌, ◌<◌, ◌≤◌, List, [], ◌∷◌, ◌++◌, length, take}
-use Rattle.first_fault.specs.Checks.{IsFirst}
+use Rattle.fault_rule.specs.Checks.{IsFirst}
 use Rattle.uc_bytes.specs.declared.causes.FileCause.{FileCause}
 use Rattle.uc_bytes.specs.declared.causes.FileCause.TheVariants.{EquivShort, Magic, EquivType, TableSmall, TableCut, SectionShort, SectionType, PatchSmall, PatchCut, FamilySize, Chipset, TooMany}
 use Rattle.uc_bytes.specs.Words.{word}

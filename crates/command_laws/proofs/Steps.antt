@@ -6,12 +6,12 @@ use Rattle.std.proofs.lemmas.List.Elements.{All-head, All-tail}
 use Rattle.std.proofs.lemmas.List.FromFn.{get_or-map-range_with_len, length-map-range_with_len}
 use Rattle.uc_bytes.specs.declared.causes.FileCause.{FileCause}
 use Rattle.uc_topology.specs.Stated.{IsPartition, group_count}
-use Rattle.file_entries.specs.declared.facts.CoreFacts.{CoreFacts}
-use Rattle.file_entries.specs.Entry.{Entry, entries_from}
-use Rattle.file_entries.specs.Selection.{IsOffer}
+use Rattle.entry_model.specs.declared.facts.CoreFacts.{CoreFacts}
+use Rattle.entry_model.specs.Entry.{Entry, entries_from}
+use Rattle.entry_model.specs.Selection.{IsOffer}
 use Rattle.entry_laws.proofs.Offers.{some_offer}
-use Rattle.file_reads.specs.Reads.{Read, AreHeld, Outcome, AllRead, NotRead, Refused, Reads, count_of}
-use Rattle.file_reads.proofs.Outcomes.{some_outcome, held_nil, held_append}
+use Rattle.read_model.specs.Reads.{Read, AreHeld, Outcome, AllRead, NotRead, Refused, Reads, count_of}
+use Rattle.read_model.proofs.Outcomes.{some_outcome, held_nil, held_append}
 use Rattle.report_text.specs.Offers.{AreOffers, facts_of_group}
 use Rattle.rendezvous_steps.specs.declared.ends.Beat.{Beat}
 use Rattle.rendezvous_steps.specs.Plan.{Plan, Sound}

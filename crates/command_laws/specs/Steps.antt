@@ -1,7 +1,7 @@
 -- Each command can be done: whatever the files hold, there is something that it does.
 use Rattle.std.specs.Prelude.{◌≡◌, ℕ, Bool, false, List, All}
 use Rattle.uc_topology.specs.Stated.{IsPartition}
-use Rattle.file_reads.specs.Reads.{AreHeld}
+use Rattle.read_model.specs.Reads.{AreHeld}
 use Rattle.rendezvous_rule.specs.Runs.{AlwaysRuns}
 use Rattle.rendezvous_steps.specs.ItemText.{item_line}
 use Rattle.script_text.specs.declared.command.Command.{Command}

@@ -17,8 +17,8 @@ use Rattle.rendezvous_model.specs.RoundStep.{thread_of}
 use Rattle.rendezvous_model.specs.Outcome.{OutcomeShows, end_of}
 use Rattle.rendezvous_rule.specs.Ran.{events_of}
 use Rattle.rendezvous_rule.specs.Shown.{shown_by}
-use Rattle.rendezvous_runs.specs.Play.{is_over, play, last_moment}
-use Rattle.rendezvous_runs.proofs.Play.{play_next, last_moment_next, play_over, last_moment_over}
+use Rattle.play_steps.specs.Play.{is_over, play, last_moment}
+use Rattle.play_steps.proofs.Play.{play_next, last_moment_next, play_over, last_moment_over}
 use Rattle.play_laws.proofs.Rounds.{enough_rounds}
 use Rattle.ctl_core.specs.Laws.{ListedIsPlayed, EnoughRoundsFinish}
 use Rattle.ctl_core.specs.Moments.{unfinished_in}

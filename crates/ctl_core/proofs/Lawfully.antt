@@ -9,8 +9,8 @@ use Rattle.rendezvous_steps.specs.Padded.{Padded}
 use Rattle.rendezvous_steps.specs.Events.{Running, happens, shows_finished}
 use Rattle.rendezvous_model.specs.RoundStep.{Round}
 use Rattle.rendezvous_rule.specs.Shown.{shown_by}
-use Rattle.rendezvous_runs.specs.Play.{is_over}
-use Rattle.rendezvous_runs.specs.Rank.{is_counted}
+use Rattle.play_steps.specs.Play.{is_over}
+use Rattle.play_steps.specs.Rank.{is_counted}
 use Rattle.play_laws.specs.Lawful.{Lawful, EventLaw}
 use Rattle.play_laws.specs.Stuck.{NeverStuck}
 use Rattle.ctl_core.specs.Moments.{is_poll}

@@ -7,8 +7,8 @@ use Rattle.rendezvous_steps.specs.declared.items.Event.{Event}
 use Rattle.rendezvous_steps.specs.Plan.{Plan, threads_from}
 use Rattle.rendezvous_steps.specs.Events.{Running, happens, shows_finished}
 use Rattle.rendezvous_model.specs.RoundStep.{thread_of}
-use Rattle.rendezvous_runs.specs.Play.{is_over}
-use Rattle.rendezvous_runs.specs.Rank.{is_counted, all_ranks}
+use Rattle.play_steps.specs.Play.{is_over}
+use Rattle.play_steps.specs.Rank.{is_counted, all_ranks}
 use Rattle.run_laws.proofs.Ranks.{all_ranks_fall}
 use Rattle.ctl_core.specs.Moments.{unfinished_in}
 

@@ -17,8 +17,8 @@ use Rattle.rendezvous_rule.specs.Ran.{events_of, repeated}
 use Rattle.rendezvous_steps.specs.Events.{Running, opening_running}
 use Rattle.rendezvous_model.specs.Outcome.{Outcome, OutcomeShows}
 use Rattle.rendezvous_rule.specs.Shown.{shown_by}
-use Rattle.rendezvous_runs.specs.Play.{is_over, play, last_moment}
-use Rattle.rendezvous_runs.proofs.Play.{play_append, last_moment_append, play_over, last_moment_over}
+use Rattle.play_steps.specs.Play.{is_over, play, last_moment}
+use Rattle.play_steps.proofs.Play.{play_append, last_moment_append, play_over, last_moment_over}
 use Rattle.rendezvous_steps.specs.ItemText.{item_line}
 use Rattle.ctl_core.specs.Playing.{lines_of, Plays}
 

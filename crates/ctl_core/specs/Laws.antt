@@ -11,7 +11,7 @@ use Rattle.rendezvous_model.specs.Outcome.{Outcome, OutcomeShows}
 use Rattle.rendezvous_rule.specs.Ran.{events_of, Listed}
 use Rattle.rendezvous_rule.specs.Shown.{shown_by}
 use Rattle.rendezvous_model.specs.Verdict.{end_at}
-use Rattle.rendezvous_runs.specs.Play.{play, last_moment}
+use Rattle.play_steps.specs.Play.{play, last_moment}
 use Rattle.play_laws.specs.Stuck.{rounds_in}
 
 -- the text is the lines of the items of the schedule, and the outcome is that of its last moment

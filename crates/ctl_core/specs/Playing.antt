@@ -10,7 +10,7 @@ use Rattle.rendezvous_steps.specs.Events.{Running, opening_running}
 use Rattle.rendezvous_model.specs.Outcome.{OutcomeShows}
 use Rattle.rendezvous_rule.specs.Ran.{events_of}
 use Rattle.rendezvous_rule.specs.Shown.{shown_by}
-use Rattle.rendezvous_runs.specs.Play.{play, last_moment}
+use Rattle.play_steps.specs.Play.{play, last_moment}
 use Rattle.rendezvous_steps.specs.ItemText.{item_line}
 use Rattle.uc_rendezvous.specs.declared.outcomes.Outcome.{Outcome as Tables}
 use Rattle.uc_rendezvous.specs.declared.runs.RunAnswer.{RunAnswer}

@@ -1,7 +1,7 @@
 //! A rendezvous that is played event by event.
 
 ghost use Rattle.std.specs.Prelude.{◌≡◌, ◌+◌, ◌*◌, ◌≤◌};
-ghost use Rattle.rendezvous_runs.specs.Rank.{all_ranks, is_counted};
+ghost use Rattle.play_steps.specs.Rank.{all_ranks, is_counted};
 ghost use Rattle.ctl_words.specs.Plans.{plan_of, IsSound};
 ghost use Rattle.ctl_core.specs.Moments.{running_of, Fits};
 
@@ -28,7 +28,7 @@ impl<'a> Core<'a> {
     ghost use Rattle.rendezvous_steps.specs.Events.{happens, opening_running};
     ghost use Rattle.rendezvous_model.specs.RoundStep.{Round, thread_of};
     ghost use Rattle.rendezvous_model.specs.Safe.{Safe};
-    ghost use Rattle.rendezvous_runs.specs.Play.{is_over};
+    ghost use Rattle.play_steps.specs.Play.{is_over};
     ghost use Rattle.rendezvous_model.specs.Outcome.{OutcomeShows};
     ghost use Rattle.uc_rendezvous.specs.Outcomes.{outcome_of};
     ghost use Rattle.ctl_core.specs.Cores.{plan_in, moment_in, state_in, spent_in, IsLawful};

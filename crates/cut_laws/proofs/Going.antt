@@ -3,8 +3,8 @@ use Rattle.std.proofs.Common.{◌≡◌, ◌++◌, ℕ, ◌+◌, suc, Bool, true
 use Rattle.std.specs.List.{All}
 use Rattle.std.proofs.lemmas.List.Elements.{All-head, All-tail}
 use Rattle.uc_topology.specs.Stated.{IsPartition}
-use Rattle.file_reads.specs.Reads.{Read}
-use Rattle.file_reads.proofs.Outcomes.{held_nil}
+use Rattle.read_model.specs.Reads.{Read}
+use Rattle.read_model.proofs.Outcomes.{held_nil}
 use Rattle.rendezvous_rule.specs.Runs.{RunOf}
 use Rattle.script_text.specs.declared.command.Command.{Command}
 use Rattle.session_steps.specs.State.{Setting, State, opening_state}

@@ -5,8 +5,8 @@ use Rattle.std.proofs.Math.Bool.{and-true}
 use Rattle.uc_io.specs.Faults.{Rose}
 use Rattle.uc_io.specs.Writing.{Grew}
 use Rattle.uc_topology.specs.Stated.{IsPartition}
-use Rattle.file_reads.specs.Reads.{Read, AreHeld}
-use Rattle.file_reads.proofs.Outcomes.{held_nil, held_append}
+use Rattle.read_model.specs.Reads.{Read, AreHeld}
+use Rattle.read_model.proofs.Outcomes.{held_nil, held_append}
 use Rattle.rendezvous_rule.specs.Runs.{RunOf, AlwaysRuns}
 use Rattle.rendezvous_steps.specs.ItemText.{item_line}
 use Rattle.script_text.specs.declared.command.Command.{Command}

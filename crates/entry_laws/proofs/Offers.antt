@@ -5,10 +5,10 @@ use Rattle.std.proofs.lemmas.Bool.{cases_lt, cases_eq, cases_order}
 use Rattle.std.proofs.lemmas.Option.{none-some, same_Some, slice_get_within}
 use Rattle.uc_bytes.specs.declared.causes.Vendor.{Vendor}
 use Rattle.uc_bytes.specs.declared.causes.Vendor.TheVariants.{Intel, Amd}
-use Rattle.first_fault.proofs.Decided.{Decided, decided_not_equal, decided_lt, decided_le, either, both, decided_by}
-use Rattle.file_entries.specs.declared.facts.CoreFacts.{CoreFacts}
-use Rattle.file_entries.specs.Entry.{Entry}
-use Rattle.file_entries.specs.Selection.{FlagsMeet, HasPair, IsServed, FitsOf, Fits, IsSafe, Admissible, IsBest, IsOffer}
+use Rattle.fault_rule.proofs.Decided.{Decided, decided_not_equal, decided_lt, decided_le, either, both, decided_by}
+use Rattle.entry_model.specs.declared.facts.CoreFacts.{CoreFacts}
+use Rattle.entry_model.specs.Entry.{Entry}
+use Rattle.entry_model.specs.Selection.{FlagsMeet, HasPair, IsServed, FitsOf, Fits, IsSafe, Admissible, IsBest, IsOffer}
 
 -- two vendors are one or are not
 same_vendor : (v w : Vendor) → Decided (v ≡ w)

@@ -5,12 +5,12 @@ use Rattle.uc_bytes.specs.declared.causes.FileCause.{FileCause}
 use Rattle.intel_format.proofs.OneReading.{one_reading as one_intel}
 use Rattle.intel_format.proofs.OneFault.{never_both as never_both_intel, one_fault as one_intel_fault}
 use Rattle.intel_format.proofs.ReadingOrFault.{reading_or_fault as intel_or_fault}
-use Rattle.first_fault.proofs.Decided.{Decided, both, decided_le}
+use Rattle.fault_rule.proofs.Decided.{Decided, both, decided_le}
 use Rattle.amd_format.proofs.OneReading.{one_reading as one_amd}
 use Rattle.amd_format.proofs.OneFault.{never_both as never_both_amd, one_fault as one_amd_fault}
 use Rattle.amd_format.proofs.ReadingOrFault.{reading_or_fault as amd_or_fault}
-use Rattle.file_entries.specs.Reading.{Reading, OfIntel, OfAmd, IsAmd, IsReading, HasFault}
-use Rattle.file_entries.specs.Entry.{Entry, AreReadings, Entries, entries_from}
+use Rattle.entry_model.specs.Reading.{Reading, OfIntel, OfAmd, IsAmd, IsReading, HasFault}
+use Rattle.entry_model.specs.Entry.{Entry, AreReadings, Entries, entries_from}
 
 -- the magic of a container begins the bytes, or it does not
 is_amd_or_not : (bytes : List ℕ) → Decided (IsAmd bytes)

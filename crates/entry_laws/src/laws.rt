@@ -1,10 +1,10 @@
 //! Laws of the definitions: each is the contract of a function that does nothing.
 ghost use Rattle.std.specs.Prelude.{◌≡◌, ◌⊎◌, ℕ, Bool, List, Option};
 ghost use Rattle.uc_bytes.specs.declared.causes.FileCause.{FileCause};
-ghost use Rattle.file_entries.specs.declared.facts.CoreFacts.{CoreFacts};
-ghost use Rattle.file_entries.specs.Reading.{Reading, IsReading, HasFault};
-ghost use Rattle.file_entries.specs.Entry.{Entry, Entries};
-ghost use Rattle.file_entries.specs.Selection.{IsOffer};
+ghost use Rattle.entry_model.specs.declared.facts.CoreFacts.{CoreFacts};
+ghost use Rattle.entry_model.specs.Reading.{Reading, IsReading, HasFault};
+ghost use Rattle.entry_model.specs.Entry.{Entry, Entries};
+ghost use Rattle.entry_model.specs.Selection.{IsOffer};
 
 /// Bytes have a reading or a first fault, never both, and no two of either.
 pub fn reading_or_fault()

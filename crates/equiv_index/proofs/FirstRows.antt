@@ -5,7 +5,7 @@ use Rattle.std.proofs.lemmas.List.{take_more}
 use Rattle.std.proofs.lemmas.List.Elements.{filter-append}
 use Rattle.std.proofs.lemmas.Bool.Decides.{nat_tests}
 use Rattle.amd_format.specs.Equiv.{id_of}
-use Rattle.file_entries.specs.Entry.{first_rows}
+use Rattle.entry_model.specs.Entry.{first_rows}
 use Rattle.equiv_index.specs.declared.row.Row.{Row}
 use Rattle.equiv_index.specs.Rows.{numbered, first_with, is_numbered, is_first}
 use Rattle.equiv_index.proofs.Sorted.{having}

@@ -6,7 +6,7 @@ use Rattle.std.proofs.lemmas.List.{map-append, take_all}
 use Rattle.std.proofs.lemmas.List.Elements.{All-filter, All-same, All-weaker, filter_agree, filter_more}
 use Rattle.std.proofs.lemmas.List.Kept.{IsNonDecreasingBy-filter}
 use Rattle.std.proofs.lemmas.List.Sorted.{All-permutation}
-use Rattle.file_entries.specs.Entry.{first_rows}
+use Rattle.entry_model.specs.Entry.{first_rows}
 use Rattle.equiv_index.specs.declared.row.Row.{Row}
 use Rattle.equiv_index.specs.Rows.{numbered, is_first, is_numbered, sigs_with, served_by}
 use Rattle.equiv_index.specs.Index.{IsBySig, IsById}

@@ -3,7 +3,7 @@ use Rattle.std.proofs.Common.{ℕ, ◌≤◌, Bool, List, [], ◌∷◌, length,
 use Rattle.std.specs.Prelude.{not, filter, ◌==◌}
 use Rattle.std.proofs.lemmas.List.{length-map}
 use Rattle.std.proofs.lemmas.List.Sums.{length-filter, count_by-le-length}
-use Rattle.file_entries.specs.Entry.{first_rows}
+use Rattle.entry_model.specs.Entry.{first_rows}
 use Rattle.equiv_index.specs.Rows.{served_by}
 
 abbrev Plain : Type 0

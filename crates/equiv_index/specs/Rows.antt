@@ -1,7 +1,7 @@
 -- The rows of an equivalence table, in their order.
 use Rattle.std.specs.Prelude.{ℕ, ◌+◌, ◌==◌, Bool, false, Option, Some, None, if◌then◌else◌, List, [], ◌∷◌, length, map, filter, slice_index_or}
 use Rattle.std.specs.List.{range_with_len}
-use Rattle.file_entries.specs.Entry.{first_rows}
+use Rattle.entry_model.specs.Entry.{first_rows}
 use Rattle.equiv_index.specs.declared.row.Row.{Row}
 
 -- rows with their numbers, from a number on

@@ -7,7 +7,7 @@ use Rattle.std.proofs.lemmas.List.Elements.{All-nil, All-cons, All-append}
 use Rattle.amd_format.specs.Equiv.{rows_of}
 use Rattle.amd_format.specs.Patch.{IsSection, patch_of}
 use Rattle.amd_format.specs.File.{FileContainer, AreSections, joined_sections, AreContainers, container_bytes, joined, patches_in, AmdFile}
-use Rattle.file_entries.specs.Entry.{Entry, patch_entry, entries_of_sections, entries_of_containers}
+use Rattle.entry_model.specs.Entry.{Entry, patch_entry, entries_of_sections, entries_of_containers}
 use Rattle.file_rows.specs.declared.patches.PatchRow.{PatchRow}
 use Rattle.file_rows.specs.declared.patches.PatchRows.{PatchRows}
 use Rattle.file_rows.specs.Kept.{kept, kept_bytes}

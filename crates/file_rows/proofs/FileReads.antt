@@ -12,7 +12,7 @@ use Rattle.intel_format.proofs.Settled as intel_proofs
 use Rattle.amd_format.specs.Equiv.{amd_magic}
 use Rattle.amd_format.specs.Settled as amd
 use Rattle.amd_format.proofs.Settled as amd_proofs
-use Rattle.file_entries.specs.Reading.{IsAmd}
+use Rattle.entry_model.specs.Reading.{IsAmd}
 use Rattle.file_rows.specs.UpdateReading as updates
 use Rattle.file_rows.specs.PatchReading as patches
 use Rattle.file_rows.specs.FileReading.{IsSettled, IsUnsettled, ComesBy, AreUpdatesRefused, IsUpdatesBegun, ArePatchesRefused, IsPatchesBegun, IsBegun, IsCome}

@@ -6,7 +6,7 @@ use Rattle.std.proofs.lemmas.List.{drop_at, take_at, append-nil}
 use Rattle.std.proofs.lemmas.List.Elements.{All-nil, All-cons}
 use Rattle.std.proofs.lemmas.Bool.{false≢true}
 use Rattle.intel_format.specs.File.{FileUpdate, AreUpdates, IntelFile, joined}
-use Rattle.file_entries.specs.Entry.{Entry, update_entry, entries_of_updates}
+use Rattle.entry_model.specs.Entry.{Entry, update_entry, entries_of_updates}
 use Rattle.file_rows.specs.declared.updates.UpdateRow.{UpdateRow}
 use Rattle.file_rows.specs.declared.updates.UpdateRows.{UpdateRows}
 use Rattle.file_rows.specs.Kept.{kept, kept_bytes}

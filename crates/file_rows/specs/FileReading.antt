@@ -8,7 +8,7 @@ use Rattle.uc_bytes.specs.declared.causes.Vendor.{Vendor}
 use Rattle.uc_bytes.specs.declared.causes.Vendor.TheVariants.{Intel, Amd}
 use Rattle.intel_format.specs.Settled as intel
 use Rattle.amd_format.specs.Settled as amd
-use Rattle.file_entries.specs.Reading.{IsAmd}
+use Rattle.entry_model.specs.Reading.{IsAmd}
 use Rattle.file_rows.specs.UpdateReading as updates
 use Rattle.file_rows.specs.PatchReading as patches
 use Rattle.file_rows.specs.declared.update_reader.UpdateReader.{UpdateReader}

@@ -4,8 +4,8 @@ use Rattle.uc_bytes.specs.declared.TheConstants.{FILE_LIMIT}
 use Rattle.uc_bytes.specs.declared.causes.FileFault.{FileFault}
 use Rattle.uc_bytes.specs.declared.causes.Vendor.{Vendor}
 use Rattle.uc_bytes.specs.declared.causes.Vendor.TheVariants.{Intel, Amd}
-use Rattle.file_entries.specs.Reading.{Reading, OfIntel, OfAmd, IsReading, HasFault}
-use Rattle.file_entries.specs.Entry.{Entry}
+use Rattle.entry_model.specs.Reading.{Reading, OfIntel, OfAmd, IsReading, HasFault}
+use Rattle.entry_model.specs.Entry.{Entry}
 use Rattle.file_rows.specs.UpdateRows.{entry_of_update, AreUpdateRows}
 use Rattle.file_rows.specs.PatchRows.{entry_of_patch, ArePatchRows}
 use Rattle.file_rows.specs.declared.updates.UpdateRow.{UpdateRow}

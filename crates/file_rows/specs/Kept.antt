@@ -1,6 +1,6 @@
 -- Bytes and entries as they are kept.
 use Rattle.std.specs.Prelude.{ℕ, Bool, true, false, List, []}
-use Rattle.file_entries.specs.Entry.{Entry}
+use Rattle.entry_model.specs.Entry.{Entry}
 
 -- bytes, where they are kept
 abbrev pub kept_bytes : Bool → List ℕ → List ℕ

@@ -5,8 +5,8 @@ use Rattle.amd_format.specs.Equiv.{rows_of}
 use Rattle.amd_format.specs.Patch.{patch_of, patch_rev, patch_id, patch_family}
 use Rattle.amd_format.specs.File.{FileContainer, container_bytes}
 use Rattle.amd_file.specs.declared.container.AmdPatch.{AmdPatch}
-use Rattle.file_entries.specs.declared.facts.EntryFacts.{EntryFacts}
-use Rattle.file_entries.specs.Entry.{Entry}
+use Rattle.entry_model.specs.declared.facts.EntryFacts.{EntryFacts}
+use Rattle.entry_model.specs.Entry.{Entry}
 use Rattle.file_rows.specs.UpdateRows.{own_of}
 use Rattle.file_rows.specs.declared.patches.PatchRow.{PatchRow}
 use Rattle.file_rows.specs.declared.patches.PatchRows.{PatchRows}

@@ -4,8 +4,8 @@ use Rattle.uc_bytes.specs.declared.causes.Vendor.TheVariants.{Intel}
 use Rattle.intel_format.specs.declared.header.IntelHeader.{IntelHeader}
 use Rattle.intel_format.specs.File.{FileUpdate}
 use Rattle.intel_file.specs.declared.walk.Ended.{Ended}
-use Rattle.file_entries.specs.declared.facts.EntryFacts.{EntryFacts}
-use Rattle.file_entries.specs.Entry.{Entry}
+use Rattle.entry_model.specs.declared.facts.EntryFacts.{EntryFacts}
+use Rattle.entry_model.specs.Entry.{Entry}
 use Rattle.file_rows.specs.declared.updates.UpdateRow.{UpdateRow}
 use Rattle.file_rows.specs.declared.updates.UpdateRows.{UpdateRows}
 

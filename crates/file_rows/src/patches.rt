@@ -3,8 +3,8 @@ ghost use Rattle.std.specs.Prelude.{◌≡◌, ◌^◌, ◌<◌};
 ghost use Rattle.file_rows.specs.PatchRows.{row_of_told, facts_of_patch};
 
 use amd_file::{AmdPatch, patch_family};
+use entry_model::EntryFacts;
 use equiv_index::RowIndex;
-use file_entries::EntryFacts;
 use uc_bytes::Vendor;
 
 /// A patch.

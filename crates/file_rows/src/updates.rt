@@ -2,7 +2,7 @@
 ghost use Rattle.std.specs.Prelude.{◌≡◌, []};
 ghost use Rattle.file_rows.specs.UpdateRows.{row_of_ended, facts_of_update};
 
-use file_entries::EntryFacts;
+use entry_model::EntryFacts;
 use intel_file::Ended;
 use intel_format::IntelHeader;
 use std::alloc::Global;

@@ -1,6 +1,6 @@
 -- The first entry that does not sum to what the header does is the table's fault, where its other checks pass.
 use Rattle.std.proofs.Common.{◌≡◌, inr, ℕ, ◌+◌, ◌*◌, ◌≤◌, List, length, arith}
-use Rattle.first_fault.proofs.Numbered.{first_at}
+use Rattle.fault_rule.proofs.Numbered.{first_at}
 use Rattle.uc_bytes.specs.Words.{word_sum_of}
 use Rattle.uc_bytes.specs.declared.causes.FileCause.TheVariants.{EntrySum}
 use Rattle.intel_format.specs.Update.{entry_count}

@@ -2,10 +2,10 @@
 use Rattle.std.proofs.Common.{◌≡◌, ◌≢◌, inl, inr, ⊎_elim, ℕ, ◌+◌, ◌*◌, ◌<◌, ◌≤◌, List, [], ◌∷◌, ◌++◌, length, map, take, drop, refl, sym, subst, ap, ◌∙◌, arith, append_assoc, length-append}
 use Rattle.std.specs.List.{range_with_len}
 use Rattle.std.proofs.lemmas.List.{take_at, drop_at, take_all, append-nil}
-use Rattle.first_fault.specs.Checks.{AllPass, IsFirst}
-use Rattle.first_fault.proofs.Alike.{AreAlike, first_alike, numbered_alike}
-use Rattle.first_fault.proofs.Numbered.{all_pass}
-use Rattle.first_fault.proofs.Search.{first_fails, first_in_front, first_behind}
+use Rattle.fault_rule.specs.Checks.{AllPass, IsFirst}
+use Rattle.fault_rule.proofs.Alike.{AreAlike, first_alike, numbered_alike}
+use Rattle.fault_rule.proofs.Numbered.{all_pass}
+use Rattle.fault_rule.proofs.Search.{first_fails, first_in_front, first_behind}
 use Rattle.uc_bytes.specs.Words.{word_sum_of}
 use Rattle.uc_bytes.specs.declared.causes.FileCause.{FileCause}
 use Rattle.uc_bytes.specs.declared.causes.FileCause.TheVariants.{Short, SizeUnaligned, TotalSmall, DataPastTotal, Version, Truncated, ExtCut, ExtCount, ExtSum, EntrySum, Sum}

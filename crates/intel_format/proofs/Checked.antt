@@ -1,9 +1,9 @@
 -- All checks of an update pass at bytes, or one is the first that fails.
 use Rattle.std.proofs.Common.{◌≡◌, ◌≢◌, ◌⊎◌, inl, inr, ℕ, zero, suc, ◌<◌, List, ◌∙◌, ap, arith}
 use Rattle.std.proofs.lemmas.Bool.{cases_eq}
-use Rattle.first_fault.specs.Checks.{AllPass}
-use Rattle.first_fault.proofs.Decided.{Decided, decided_not_equal, decided_lt, decided_le, either, both, three}
-use Rattle.first_fault.proofs.Search.{searched}
+use Rattle.fault_rule.specs.Checks.{AllPass}
+use Rattle.fault_rule.proofs.Decided.{Decided, decided_not_equal, decided_lt, decided_le, either, both, three}
+use Rattle.fault_rule.proofs.Search.{searched}
 use Rattle.uc_bytes.specs.declared.causes.FileCause.{FileCause}
 use Rattle.uc_bytes.specs.declared.causes.FileCause.TheVariants.{Short, SizeUnaligned, TotalSmall, DataPastTotal, Version, Truncated, ExtCut, ExtCount, ExtSum, EntrySum, Sum, TooMany}
 use Rattle.intel_format.specs.Header.{header_of, header_triple}

@@ -2,7 +2,7 @@
 use Rattle.std.proofs.Common.{inl, inr, ℕ, Bool, true, false, ℤ, ◌≤ℤ◌}
 use Rattle.std.proofs.Math.Dec.{T}
 use Rattle.std.specs.Int.Signed.{le_z}
-use Rattle.first_fault.proofs.Decided.{Decided, decided_le, both, three, decided_by}
+use Rattle.fault_rule.proofs.Decided.{Decided, decided_le, both, three, decided_by}
 use Rattle.jiff_core.specs.Calendar.{IsDate, IsBetween}
 use Rattle.intel_format.specs.Date.{NamesDay, AreDigits, month_byte, day_byte, century_byte, year_byte}
 

@@ -2,7 +2,7 @@
 use Rattle.std.proofs.Common.{◌≡◌, inl, inr, ℕ, ◌<◌, ◌≤◌, List, [], ◌∷◌, ◌++◌, length, take, drop, sym, ◌∙◌, ap, subst, refl, arith, append_assoc, length-append, take-append-drop, length-take}
 use Rattle.std.proofs.lemmas.Bool.{cases_lt}
 use Rattle.std.proofs.lemmas.List.{take_at, drop_at, take_all}
-use Rattle.first_fault.proofs.Search.{first_fails, one_first}
+use Rattle.fault_rule.proofs.Search.{first_fails, one_first}
 use Rattle.uc_bytes.specs.declared.causes.FileCause.{FileCause}
 use Rattle.intel_format.specs.Update.{IsIntelUpdate}
 use Rattle.intel_format.specs.Checks.{Fails, IsFirstFault, update_checks}

@@ -2,9 +2,9 @@
 use Rattle.std.proofs.Common.{◌≡◌, ◌≢◌, ◌⊎◌, inl, inr, ℕ, zero, suc, ◌+◌, ◌<◌, ◌≤◌, List, [], ◌∷◌, ◌++◌, length, map, take, drop, sym, ◌∙◌, ap, subst, refl, arith, append_assoc, length-append, take-append-drop}
 use Rattle.std.specs.List.{range_with_len}
 use Rattle.std.proofs.lemmas.Bool.{cases_lt, cases_eq}
-use Rattle.first_fault.specs.Checks.{AllPass}
-use Rattle.first_fault.proofs.Numbered.{each_passes}
-use Rattle.first_fault.proofs.Search.{pass_in_front, pass_behind}
+use Rattle.fault_rule.specs.Checks.{AllPass}
+use Rattle.fault_rule.proofs.Numbered.{each_passes}
+use Rattle.fault_rule.proofs.Search.{pass_in_front, pass_behind}
 use Rattle.uc_bytes.specs.declared.causes.FileCause.{FileCause}
 use Rattle.uc_bytes.specs.declared.causes.FileCause.TheVariants.{EntrySum, Sum}
 use Rattle.intel_format.specs.declared.header.IntelHeader.{IntelHeader}

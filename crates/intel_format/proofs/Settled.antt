@@ -3,9 +3,9 @@ use Rattle.std.proofs.Common.{◌≢◌, ◌≡◌, inl, inr, ℕ, ◌+◌, ◌%
 use Rattle.std.specs.Prelude.{◌⊎◌}
 use Rattle.std.specs.List.{range_with_len}
 use Rattle.std.proofs.lemmas.List.{take-append-le}
-use Rattle.first_fault.specs.Checks.{IsFirst}
-use Rattle.first_fault.proofs.Alike.{said_of_same, said_through, AreAlike, first_alike, pass_alike, alike_together, numbered_alike}
-use Rattle.first_fault.proofs.Search.{first_in_front, first_behind, front_or_behind}
+use Rattle.fault_rule.specs.Checks.{IsFirst}
+use Rattle.fault_rule.proofs.Alike.{said_of_same, said_through, AreAlike, first_alike, pass_alike, alike_together, numbered_alike}
+use Rattle.fault_rule.proofs.Search.{first_in_front, first_behind, front_or_behind}
 use Rattle.uc_bytes.specs.Words.{word_sum_of}
 use Rattle.uc_bytes.specs.declared.causes.FileCause.{FileCause}
 use Rattle.uc_bytes.specs.declared.causes.FileCause.TheVariants.{Short, Truncated, ExtCut, ExtCount, ExtSum, EntrySum, Sum}

@@ -1,7 +1,7 @@
 -- The checks of an update, in their order. The first that fails is the fault.
 use Rattle.std.specs.Prelude.{◌≡◌, ◌≢◌, ◌⊎◌, ℕ, ◌+◌, ◌*◌, ◌%◌, ◌<◌, ◌≤◌, List, [], ◌∷◌, ◌++◌, length, map, take, drop}
 use Rattle.std.specs.List.{range_with_len}
-use Rattle.first_fault.specs.Checks.{IsFirst}
+use Rattle.fault_rule.specs.Checks.{IsFirst}
 use Rattle.uc_bytes.specs.declared.causes.FileCause.{FileCause}
 use Rattle.uc_bytes.specs.declared.causes.FileCause.TheVariants.{Short, SizeUnaligned, TotalSmall, DataPastTotal, Version, Truncated, ExtCut, ExtCount, ExtSum, EntrySum, Sum, TooMany}
 use Rattle.uc_bytes.specs.Words.{word_sum_of}

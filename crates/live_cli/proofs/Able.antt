@@ -4,21 +4,21 @@ use Rattle.std.specs.Prelude.{All}
 use Rattle.std.proofs.lemmas.Bool.{cases_lt, lt-ltb, false≢true}
 use Rattle.std.proofs.lemmas.List.{append-nil, get_or_append_left, get_or-append-add}
 use Rattle.std.proofs.lemmas.List.Elements.{All-nil, All-cons, All-head, All-tail}
-use Rattle.file_entries.specs.declared.facts.CoreFacts.{CoreFacts}
-use Rattle.file_entries.specs.Reading.{Reading}
-use Rattle.file_entries.specs.Entry.{Entry}
+use Rattle.tool_text.specs.entry_model.declared.facts.CoreFacts.{CoreFacts}
+use Rattle.tool_text.specs.entry_model.Reading.{Reading}
+use Rattle.tool_text.specs.entry_model.Entry.{Entry}
 use Rattle.entry_laws.proofs.Offers.{one_offer}
-use Rattle.file_reads.specs.Accepts.{AreAccepted}
-use Rattle.file_reads.specs.Reads.{Read, AreHeld, AllRead, NotRead}
-use Rattle.file_reads.proofs.Outcomes.{all_or_not_read}
-use Rattle.rendezvous_steps.specs.declared.ends.Beat.{Beat}
-use Rattle.rendezvous_steps.specs.declared.ends.Beat.TheVariants.{Rounds}
-use Rattle.rendezvous_steps.specs.Plan.{Plan}
-use Rattle.rendezvous_steps.specs.Padded.{Padded}
-use Rattle.rendezvous_rule.specs.Runs.{RunOf}
+use Rattle.read_model.specs.Accepts.{AreAccepted}
+use Rattle.read_model.specs.Reads.{Read, AreHeld, AllRead, NotRead}
+use Rattle.read_model.proofs.Outcomes.{all_or_not_read}
+use Rattle.tool_text.specs.rendezvous_steps.declared.ends.Beat.{Beat}
+use Rattle.tool_text.specs.rendezvous_steps.declared.ends.Beat.TheVariants.{Rounds}
+use Rattle.tool_text.specs.rendezvous_steps.Plan.{Plan}
+use Rattle.tool_text.specs.rendezvous_steps.Padded.{Padded}
+use Rattle.tool_text.specs.rendezvous_rule.Runs.{RunOf}
 use Rattle.round_laws.specs.Laws.{VerdictIsOne}
 use Rattle.play_laws.specs.Patient.{NoneRefuses, InTimeIsDone, PatientIsDone, is_in_time}
-use Rattle.machine_steps.specs.Puts.{Puts}
+use Rattle.tool_text.specs.machine_steps.Puts.{Puts}
 use Rattle.script_text.specs.declared.command.Command.{Command}
 use Rattle.script_text.specs.declared.command.Command.TheVariants as command
 use Rattle.session_text.specs.declared.answers.CommandAnswer.{CommandAnswer}
@@ -26,11 +26,11 @@ use Rattle.session_text.specs.declared.answers.CommandAnswer.TheVariants.{Done, 
 use Rattle.session_text.specs.declared.answers.LoadAnswer.TheVariants as load
 use Rattle.session_text.specs.declared.answers.SessionAnswer.{SessionAnswer}
 use Rattle.session_text.specs.declared.answers.SessionAnswer.TheVariants as session
-use Rattle.session_steps.specs.State.{Setting, State, machine_of, takes_part}
-use Rattle.session_steps.specs.Offers.{offer_of, facts_now, IsOfferWhere, AreLoadOffers, put_revision, plan_of}
-use Rattle.session_steps.specs.Did.{Did}
-use Rattle.session_steps.specs.Step.{SessionStep, ReadAll, LoadRow, Meets, run_of}
-use Rattle.session_steps.specs.Session.{StepsFrom, ends_session, left_to_run, is_done, all_done, all_reads, all_runs, with_run, ended_by, or_else, first_end, answer_by, session_answer}
+use Rattle.tool_text.specs.session_steps.State.{Setting, State, machine_of, takes_part}
+use Rattle.tool_text.specs.session_steps.Offers.{offer_of, facts_now, IsOfferWhere, AreLoadOffers, put_revision, plan_of}
+use Rattle.tool_text.specs.session_steps.Did.{Did}
+use Rattle.tool_text.specs.session_steps.Step.{SessionStep, ReadAll, LoadRow, Meets, run_of}
+use Rattle.tool_text.specs.session_steps.Session.{StepsFrom, ends_session, left_to_run, is_done, all_done, all_reads, all_runs, with_run, ended_by, or_else, first_end, answer_by, session_answer}
 use Rattle.session_laws.proofs.Plans.{offer_in}
 use Rattle.tool_text.specs.Commands.{entries_of_all}
 use Rattle.tool_text.specs.Able as able

@@ -6,7 +6,7 @@ use Rattle.uc_io.specs.Faults.{Rose}
 use Rattle.uc_topology.specs.Stated.{Machine}
 use Rattle.uc_topology.specs.Texts as topology_texts
 use Rattle.uc_topology.proofs.Laws.{one_machine}
-use Rattle.rendezvous_rule.specs.Runs.{RunOf}
+use Rattle.tool_text.specs.rendezvous_rule.Runs.{RunOf}
 use Rattle.round_laws.specs.Laws.{VerdictIsOne}
 use Rattle.play_laws.specs.Patient.{InTimeIsDone, PatientIsDone}
 use Rattle.script_text.specs.declared.command.Command.{Command}
@@ -17,17 +17,17 @@ use Rattle.script_text.specs.Texts.{States}
 use Rattle.script_text.proofs.OneReading.{one_script, never_both as never_both_script}
 use Rattle.script_text.specs.Accepts.{IsScript, RefusesScript}
 use Rattle.session_text.specs.declared.answers.SessionAnswer.{SessionAnswer}
-use Rattle.session_steps.specs.State.{Setting, opening_state}
-use Rattle.session_steps.specs.Did.{Did}
-use Rattle.session_steps.specs.Session.{Steps, all_reads, all_runs, session_answer}
-use Rattle.file_reads.specs.Accepts.{IsMachine}
-use Rattle.file_reads.specs.Reads.{Read, AreHeld}
-use Rattle.file_reads.proofs.Outcomes.{held_head, held_tail}
-use Rattle.top_call.specs.declared.status.Status.{Status}
-use Rattle.top_call.specs.declared.status.Status.TheVariants.{BadInput, ReadFault}
-use Rattle.top_call.specs.declared.status.Status.TheVariants as statuses
-use Rattle.top_call.specs.Causes.{ReadCause, WriteCause}
-use Rattle.top_call.specs.Written.{Written}
+use Rattle.tool_text.specs.session_steps.State.{Setting, opening_state}
+use Rattle.tool_text.specs.session_steps.Did.{Did}
+use Rattle.tool_text.specs.session_steps.Session.{Steps, all_reads, all_runs, session_answer}
+use Rattle.read_model.specs.Accepts.{IsMachine}
+use Rattle.read_model.specs.Reads.{Read, AreHeld}
+use Rattle.read_model.proofs.Outcomes.{held_head, held_tail}
+use Rattle.status_rule.specs.declared.status.Status.{Status}
+use Rattle.status_rule.specs.declared.status.Status.TheVariants.{BadInput, ReadFault}
+use Rattle.status_rule.specs.declared.status.Status.TheVariants as statuses
+use Rattle.status_rule.specs.Causes.{ReadCause, WriteCause}
+use Rattle.status_rule.specs.Written.{Written}
 use Rattle.tool_text.specs.Words.{Asked, SelectOf, PlayOf}
 use Rattle.tool_text.specs.Plays.{limits_of, setting_of, status_of, ScriptFailsAt}
 use Rattle.tool_laws.proofs.Complete.{IsEnd, complete as ends_with}

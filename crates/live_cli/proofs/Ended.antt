@@ -4,8 +4,8 @@ use Rattle.std.specs.Prelude.{IsTrue}
 use Rattle.std.proofs.lemmas.Bool.{false≢true}
 use Rattle.session_text.specs.declared.answers.SessionAnswer.{SessionAnswer}
 use Rattle.session_text.specs.declared.answers.SessionAnswer.TheVariants as session
-use Rattle.session_steps.specs.Whole.{is_unread}
-use Rattle.top_call.specs.Written.{GoesWith}
+use Rattle.tool_text.specs.session_steps.Whole.{is_unread}
+use Rattle.status_rule.specs.Written.{GoesWith}
 use Rattle.tool_text.specs.Plays.{status_of, unread_after}
 
 pub goes : (count : ℕ) (answer : SessionAnswer) → GoesWith (unread_after count answer) (status_of answer)

@@ -1,9 +1,9 @@
 -- What holds of the session that a text is of; and what was written is of texts of which this holds.
 use Rattle.std.proofs.Common.{ℕ, List, Option}
 use Rattle.uc_topology.proofs.Partition.{partition}
-use Rattle.top_call.specs.declared.status.Status.{Status}
-use Rattle.top_call.specs.Written.{Written}
-use Rattle.rendezvous_rule.specs.Runs.{RunOf}
+use Rattle.status_rule.specs.declared.status.Status.{Status}
+use Rattle.status_rule.specs.Written.{Written}
+use Rattle.tool_text.specs.rendezvous_rule.Runs.{RunOf}
 use Rattle.script_text.proofs.Kept.{within}
 use Rattle.tool_text.specs.Words.{Asked, Faulty, ListOf, ShowOf, SelectOf, PlayOf, GenOf}
 use Rattle.tool_text.specs.Plays.{limits_of, setting_of}

@@ -3,25 +3,25 @@ use Rattle.std.proofs.Common.{◌≡◌, ℕ, Bool, true, false, List, [], Optio
 use Rattle.std.specs.Option.{unwrap_or}
 use Rattle.std.proofs.lemmas.Bool.{false≢true}
 use Rattle.std.proofs.lemmas.Option.{none-some}
-use Rattle.file_reads.specs.Reads.{Read}
-use Rattle.rendezvous_steps.specs.declared.ends.Beat.{Beat}
-use Rattle.rendezvous_steps.specs.declared.ends.End.{End}
-use Rattle.rendezvous_steps.specs.declared.ends.End.TheVariants as ends
-use Rattle.rendezvous_steps.specs.Plan.{Plan, Sound}
-use Rattle.rendezvous_model.specs.Outcome.{Outcome}
-use Rattle.rendezvous_model.specs.Verdict.{Verdict, LoadVerdict, ended_halted, end_at}
-use Rattle.rendezvous_model.specs.Verdict as verdict
-use Rattle.rendezvous_rule.specs.Ran.{Unlisted}
-use Rattle.rendezvous_rule.specs.Runs.{RunOf}
+use Rattle.read_model.specs.Reads.{Read}
+use Rattle.tool_text.specs.rendezvous_steps.declared.ends.Beat.{Beat}
+use Rattle.tool_text.specs.rendezvous_steps.declared.ends.End.{End}
+use Rattle.tool_text.specs.rendezvous_steps.declared.ends.End.TheVariants as ends
+use Rattle.tool_text.specs.rendezvous_steps.Plan.{Plan, Sound}
+use Rattle.tool_text.specs.rendezvous_model.Outcome.{Outcome}
+use Rattle.tool_text.specs.rendezvous_model.Verdict.{Verdict, LoadVerdict, ended_halted, end_at}
+use Rattle.tool_text.specs.rendezvous_model.Verdict as verdict
+use Rattle.tool_text.specs.rendezvous_rule.Ran.{Unlisted}
+use Rattle.tool_text.specs.rendezvous_rule.Runs.{RunOf}
 use Rattle.round_laws.specs.Laws.{VerdictIsOne}
 use Rattle.play_laws.specs.Patient.{NoneRefuses, InTimeIsDone}
 use Rattle.session_text.specs.declared.answers.CommandAnswer.{CommandAnswer}
 use Rattle.session_text.specs.declared.answers.CommandAnswer.TheVariants as answers
 use Rattle.session_text.specs.declared.answers.LoadAnswer.TheVariants as load
-use Rattle.session_steps.specs.State.{Setting, State}
-use Rattle.session_steps.specs.Offers.{plan_of}
-use Rattle.session_steps.specs.Did.{Did, only}
-use Rattle.session_steps.specs.Step.{LoadRow, Meets, met, run_of, answer_of}
+use Rattle.tool_text.specs.session_steps.State.{Setting, State}
+use Rattle.tool_text.specs.session_steps.Offers.{plan_of}
+use Rattle.tool_text.specs.session_steps.Did.{Did, only}
+use Rattle.tool_text.specs.session_steps.Step.{LoadRow, Meets, met, run_of, answer_of}
 use Rattle.live_cli.specs.Loads.{LoadsInTime, LateLoads, WasLate, tells_of_patience}
 
 pub some_is : {A : Type 0} (a b : A) → Some a ≡ Some b → a ≡ b

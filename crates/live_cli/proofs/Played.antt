@@ -5,24 +5,24 @@ use Rattle.uc_io.specs.Faults.{Rose}
 use Rattle.uc_io.specs.Writing.{Grew}
 use Rattle.uc_topology.specs.declared.fault.TopoCause.TheVariants.{LiveLimit}
 use Rattle.uc_topology.specs.Stated.{Machine}
-use Rattle.file_reads.specs.Accepts.{IsMachine}
-use Rattle.file_reads.specs.Reads.{Read, AreHeld}
-use Rattle.file_reads.proofs.Outcomes.{held_nil, held_cons, held_one}
-use Rattle.rendezvous_rule.specs.Runs.{RunOf}
-use Rattle.report_text.specs.Lines.{unread_line, usage_line, topology_line}
+use Rattle.read_model.specs.Accepts.{IsMachine}
+use Rattle.read_model.specs.Reads.{Read, AreHeld}
+use Rattle.read_model.proofs.Outcomes.{held_nil, held_cons, held_one}
+use Rattle.tool_text.specs.rendezvous_rule.Runs.{RunOf}
+use Rattle.tool_text.specs.report_text.Lines.{unread_line, usage_line, topology_line}
 use Rattle.script_text.specs.Accepts.{IsScript}
 use Rattle.script_text.specs.Lines.{script_line}
 use Rattle.script_text.specs.Stated.{Stated}
 use Rattle.session_text.specs.declared.answers.SessionAnswer.{SessionAnswer}
 use Rattle.session_text.specs.declared.answers.SessionAnswer.TheVariants as session
-use Rattle.session_steps.specs.Did.{Did}
-use Rattle.session_steps.specs.Session.{Steps, texts_from, all_reads, all_runs, session_answer}
-use Rattle.session_steps.specs.Calls.{Outside, HeldWhere, Surroundings}
-use Rattle.session_steps.specs.Whole.{PlaysWhole, PlaysFront, IsPlayedThrough}
-use Rattle.top_call.specs.declared.status.Status.{Status}
-use Rattle.top_call.specs.declared.status.Status.TheVariants as statuses
-use Rattle.top_call.specs.Status.{RanToItsEnd}
-use Rattle.top_call.specs.Written.{memory_line, GoesWith, HasText, WroteText, StartsText, Written, Ends}
+use Rattle.tool_text.specs.session_steps.Did.{Did}
+use Rattle.tool_text.specs.session_steps.Session.{Steps, texts_from, all_reads, all_runs, session_answer}
+use Rattle.tool_text.specs.session_steps.Calls.{Outside, HeldWhere, Surroundings}
+use Rattle.tool_text.specs.session_steps.Whole.{PlaysWhole, PlaysFront, IsPlayedThrough}
+use Rattle.status_rule.specs.declared.status.Status.{Status}
+use Rattle.status_rule.specs.declared.status.Status.TheVariants as statuses
+use Rattle.status_rule.specs.Status.{RanToItsEnd}
+use Rattle.status_rule.specs.Written.{memory_line, GoesWith, HasText, WroteText, StartsText, Written, Ends}
 use Rattle.tool_text.specs.Plays.{limits_of, setting_of, status_of, unread_after}
 use Rattle.tool_text.specs.Words.{Faulty}
 use Rattle.uc_cli.specs.Playing.{IsEnded}

@@ -6,13 +6,13 @@ use Rattle.uc_topology.specs.declared.fault.TopoCause.TheVariants as topo
 use Rattle.uc_topology.specs.Stated.{Machine}
 use Rattle.uc_topology.proofs.Laws.{one_each as one_each_topology}
 use Rattle.uc_topology.proofs.Partition.{partition}
-use Rattle.file_reads.specs.declared.TheConstants.{TOPOLOGY_LIMIT}
-use Rattle.file_reads.specs.Accepts.{IsMachine, RefusesTopology}
-use Rattle.file_reads.specs.Reads.{Read}
-use Rattle.file_reads.proofs.Outcomes.{held_one, held_cons}
-use Rattle.report_text.specs.Lines.{topology_line}
-use Rattle.rendezvous_rule.specs.Runs.{RunOf, AlwaysRuns}
-use Rattle.rendezvous_steps.specs.ItemText.{item_line}
+use Rattle.read_model.specs.declared.TheConstants.{TOPOLOGY_LIMIT}
+use Rattle.read_model.specs.Accepts.{IsMachine, RefusesTopology}
+use Rattle.read_model.specs.Reads.{Read}
+use Rattle.read_model.proofs.Outcomes.{held_one, held_cons}
+use Rattle.tool_text.specs.report_text.Lines.{topology_line}
+use Rattle.tool_text.specs.rendezvous_rule.Runs.{RunOf, AlwaysRuns}
+use Rattle.tool_text.specs.rendezvous_steps.ItemText.{item_line}
 use Rattle.script_text.specs.declared.fault.ScriptCause.{ScriptCause}
 use Rattle.script_text.specs.declared.fault.ScriptCause.TheVariants.{TooLong}
 use Rattle.script_text.specs.Stated.{Stated}
@@ -22,13 +22,13 @@ use Rattle.script_text.specs.declared.TheConstants.{SCRIPT_LIMIT}
 use Rattle.script_text.specs.Accepts.{IsScript, RefusesScript}
 use Rattle.script_text.specs.Lines.{script_line}
 use Rattle.session_text.specs.declared.answers.SessionAnswer.{SessionAnswer}
-use Rattle.session_steps.specs.State.{opening_state}
-use Rattle.session_steps.specs.Session.{texts_from, all_reads, all_runs, session_answer}
+use Rattle.tool_text.specs.session_steps.State.{opening_state}
+use Rattle.tool_text.specs.session_steps.Session.{texts_from, all_reads, all_runs, session_answer}
 use Rattle.session_laws.proofs.Stands.{opening_stands}
 use Rattle.command_laws.specs.Steps.{SessionsExist}
-use Rattle.top_call.specs.Written.{HasText, GoesWith}
-use Rattle.top_call.specs.declared.status.Status.{Status}
-use Rattle.top_call.specs.declared.status.Status.TheVariants.{BadInput}
+use Rattle.status_rule.specs.Written.{HasText, GoesWith}
+use Rattle.status_rule.specs.declared.status.Status.{Status}
+use Rattle.status_rule.specs.declared.status.Status.TheVariants.{BadInput}
 use Rattle.tool_text.specs.Plays.{limits_of, setting_of, status_of}
 use Rattle.cut_laws.proofs.Within.{all_in_range}
 use Rattle.live_cli.proofs.Ended.{goes, none_unread}

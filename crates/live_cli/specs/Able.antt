@@ -2,20 +2,20 @@
 -- whatever state those before it leave. No schedule is asked for.
 use Rattle.std.specs.Prelude.{◌≡◌, ℕ, ◌≤◌, Bool, false, List, [], ◌∷◌, length, map, drop, All, Option, Some, None}
 use Rattle.uc_topology.specs.Stated.{Machine}
-use Rattle.file_entries.specs.Reading.{Reading}
-use Rattle.file_reads.specs.Accepts.{IsMachine, AreAccepted}
-use Rattle.file_reads.specs.Reads.{AreHeld}
-use Rattle.rendezvous_rule.specs.Runs.{RunOf}
-use Rattle.machine_steps.specs.Puts.{Puts}
+use Rattle.tool_text.specs.entry_model.Reading.{Reading}
+use Rattle.read_model.specs.Accepts.{IsMachine, AreAccepted}
+use Rattle.read_model.specs.Reads.{AreHeld}
+use Rattle.tool_text.specs.rendezvous_rule.Runs.{RunOf}
+use Rattle.tool_text.specs.machine_steps.Puts.{Puts}
 use Rattle.script_text.specs.declared.command.Command.{Command}
 use Rattle.script_text.specs.declared.command.Command.TheVariants as command
 use Rattle.script_text.specs.Stated.{Stated}
 use Rattle.script_text.specs.Accepts.{IsScript}
 use Rattle.session_text.specs.declared.answers.CommandAnswer.TheVariants.{Done}
-use Rattle.session_steps.specs.State.{Setting, State, opening_state, first_missing}
-use Rattle.session_steps.specs.Offers.{offer_of, AreLoadOffers, SomethingOffered}
-use Rattle.session_steps.specs.Did.{Did}
-use Rattle.session_steps.specs.Step.{SessionStep}
+use Rattle.tool_text.specs.session_steps.State.{Setting, State, opening_state, first_missing}
+use Rattle.tool_text.specs.session_steps.Offers.{offer_of, AreLoadOffers, SomethingOffered}
+use Rattle.tool_text.specs.session_steps.Did.{Did}
+use Rattle.tool_text.specs.session_steps.Step.{SessionStep}
 use Rattle.session_laws.specs.Lent.{AllPut}
 use Rattle.tool_text.specs.Commands.{entries_of_all}
 use Rattle.tool_text.specs.Plays.{limits_of, setting_of}

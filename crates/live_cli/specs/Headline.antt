@@ -2,8 +2,8 @@
 -- order of the threads' steps: the headline sentence, part by part, of each command of the session that it is the text
 -- of. Where a rendezvous lists no items, its outcome is one that a run may come to.
 use Rattle.std.specs.Prelude.{ℕ, List, Option}
-use Rattle.top_call.specs.declared.status.Status.{Status}
-use Rattle.session_steps.specs.State.{opening_state}
+use Rattle.status_rule.specs.declared.status.Status.{Status}
+use Rattle.tool_text.specs.session_steps.State.{opening_state}
 use Rattle.tool_text.specs.Headline.{SessionHolds}
 use Rattle.tool_text.specs.Plays.{setting_of}
 use Rattle.tool_text.specs.Words.{Asked, PlayOf}

@@ -1,15 +1,15 @@
 -- What a load comes to whose rendezvous lists nothing.
 use Rattle.std.specs.Prelude.{◌≡◌, ℕ, Bool, true, false, List, Some}
-use Rattle.rendezvous_steps.specs.declared.ends.Beat.{Beat}
-use Rattle.rendezvous_rule.specs.Runs.{RunOf}
+use Rattle.tool_text.specs.rendezvous_steps.declared.ends.Beat.{Beat}
+use Rattle.tool_text.specs.rendezvous_rule.Runs.{RunOf}
 use Rattle.play_laws.specs.Patient.{NoneRefuses}
 use Rattle.script_text.specs.declared.command.Command.TheVariants.{Load}
 use Rattle.session_text.specs.declared.answers.CommandAnswer.{CommandAnswer}
 use Rattle.session_text.specs.declared.answers.CommandAnswer.TheVariants as answers
 use Rattle.session_text.specs.declared.answers.LoadAnswer.TheVariants as load
-use Rattle.session_steps.specs.State.{Setting, State}
-use Rattle.session_steps.specs.Did.{Did}
-use Rattle.session_steps.specs.Step.{SessionStep}
+use Rattle.tool_text.specs.session_steps.State.{Setting, State}
+use Rattle.tool_text.specs.session_steps.Did.{Did}
+use Rattle.tool_text.specs.session_steps.Step.{SessionStep}
 
 -- A load that came to a rendezvous in which no thread gave up on others is done, where no group with an offer refuses.
 abbrev pub LoadsInTime : Type 0

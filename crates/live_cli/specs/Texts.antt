@@ -2,16 +2,16 @@
 use Rattle.std.specs.Prelude.{◌≡◌, ◌⊎◌, ℕ, ◌+◌, ◌<◌, ◌≤◌, Bool, false, List, [], ◌∷◌, ◌++◌, length, Option, None}
 use Rattle.uc_topology.specs.declared.fault.TopoCause.TheVariants.{LiveLimit}
 use Rattle.uc_topology.specs.Stated.{Machine}
-use Rattle.top_call.specs.declared.status.Status.{Status}
-use Rattle.top_call.specs.declared.status.Status.TheVariants.{Usage, BadInput, WriteFault, NoMemory}
-use Rattle.file_reads.specs.Reads.{Read, AreHeld}
-use Rattle.report_text.specs.Lines.{usage_line, topology_line}
-use Rattle.rendezvous_rule.specs.Runs.{RunOf}
+use Rattle.status_rule.specs.declared.status.Status.{Status}
+use Rattle.status_rule.specs.declared.status.Status.TheVariants.{Usage, BadInput, WriteFault, NoMemory}
+use Rattle.read_model.specs.Reads.{Read, AreHeld}
+use Rattle.tool_text.specs.report_text.Lines.{usage_line, topology_line}
+use Rattle.tool_text.specs.rendezvous_rule.Runs.{RunOf}
 use Rattle.script_text.specs.Accepts.{IsScript}
 use Rattle.script_text.specs.Stated.{Stated}
 use Rattle.session_text.specs.declared.answers.SessionAnswer.{SessionAnswer}
-use Rattle.session_steps.specs.Did.{Did}
-use Rattle.session_steps.specs.Session.{Steps, texts_from, all_reads, all_runs, session_answer}
+use Rattle.tool_text.specs.session_steps.Did.{Did}
+use Rattle.tool_text.specs.session_steps.Session.{Steps, texts_from, all_reads, all_runs, session_answer}
 use Rattle.tool_text.specs.Commands.{FailsAt}
 use Rattle.tool_text.specs.Plays.{limits_of, setting_of, status_of, unread_after, StatesMachine, ScriptFailsAt}
 use Rattle.tool_text.specs.Words.{Asked, Faulty, PlayOf}

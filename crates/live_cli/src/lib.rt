@@ -13,4 +13,4 @@ mod words;
 
 pub use live::run_live;
 pub use prompt::PromptOut;
-pub use top_call::Status;
+pub use status_rule::Status;

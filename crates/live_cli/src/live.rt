@@ -1,9 +1,9 @@
 //! The top call.
 ghost use Rattle.std.specs.Prelude.{◌≡◌, ◌⊎◌, ◌≤◌, false};
 ghost use Rattle.uc_io.specs.Faults.{Rose};
-ghost use Rattle.top_call.specs.declared.status.Status.TheVariants.{Done, NoMemory};
-ghost use Rattle.top_call.specs.Causes.{ReadCause, WriteCause};
-ghost use Rattle.top_call.specs.Written.{Written};
+ghost use Rattle.status_rule.specs.declared.status.Status.TheVariants.{Done, NoMemory};
+ghost use Rattle.status_rule.specs.Causes.{ReadCause, WriteCause};
+ghost use Rattle.status_rule.specs.Written.{Written};
 ghost use Rattle.sleep_laws.specs.Cold.{ColdGroupsCatchUp};
 ghost use Rattle.sleep_laws.specs.Sleep.{ResumesBringBack};
 ghost use Rattle.tool_text.specs.Tool.{UsageCause};
@@ -20,8 +20,8 @@ use command_laws::each_command_does_something;
 use play_laws::{a_patient_schedule_is_done, an_outcome_in_time_is_done};
 use round_laws::the_verdict_is_the_first_that_holds;
 use sleep_laws::a_resume_brings_back;
+use status_rule::{Status, after_write};
 use std::alloc::Global;
-use top_call::{Status, after_write};
 use uc_bytes::Text;
 use uc_cli::{Refusal, end_session, read_commands, read_machine, refuse};
 use uc_io::{Files, Sink};

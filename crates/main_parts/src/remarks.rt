@@ -1,7 +1,7 @@
 //! What is said on standard error.
 
+use status_rule::Status;
 use std::io;
-use top_call::Status;
 use uc_io::Failure;
 
 /// A program, as it speaks of itself.

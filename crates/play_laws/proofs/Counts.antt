@@ -15,7 +15,7 @@ use Rattle.rendezvous_steps.specs.declared.items.What.TheVariants as what
 use Rattle.rendezvous_steps.specs.Plan.{Plan, offline_from, offline_count}
 use Rattle.rendezvous_steps.specs.Words.{touched}
 use Rattle.rendezvous_steps.specs.StepTable.{operation, operation_in, enter_operation, after, after_in, after_outside, after_kick, write_of, release_of, told, go_path, drop_path, withdraw_at, by_decision, by_release, polled, to}
-use Rattle.rendezvous_runs.specs.Rank.{is_counted}
+use Rattle.play_steps.specs.Rank.{is_counted}
 
 -- the thread in this phase has an operation, whose item counts
 record CountsIn (plan : Plan) (t : ℕ) (local : Local) (words : Word → ℕ) (p : Phase) : Type 0 where

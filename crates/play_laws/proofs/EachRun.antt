@@ -8,8 +8,8 @@ use Rattle.rendezvous_steps.specs.Events.{Running, happens, opening_running}
 use Rattle.rendezvous_model.specs.Round.{unfinished_count}
 use Rattle.rendezvous_model.specs.Run.{Run, Answered}
 use Rattle.rendezvous_rule.specs.Shown.{shown_by}
-use Rattle.rendezvous_runs.specs.Play.{is_over, play, moment_at, last_moment}
-use Rattle.rendezvous_runs.proofs.Play.{item_of, play_over, play_next, moment_at_over, moment_at_next, last_moment_over, last_moment_next, last_moment_is, play_no_longer}
+use Rattle.play_steps.specs.Play.{is_over, play, moment_at, last_moment}
+use Rattle.play_steps.proofs.Play.{item_of, play_over, play_next, moment_at_over, moment_at_next, last_moment_over, last_moment_next, last_moment_is, play_no_longer}
 use Rattle.run_laws.proofs.Few.{few_inner_items, few_counted}
 use Rattle.run_laws.proofs.SafeRuns.{safe_runs_exclude, runs_never_fall}
 use Rattle.play_laws.specs.Lawful.{Lawful, EventLaw, OpeningIsLawful}

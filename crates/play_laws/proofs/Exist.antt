@@ -16,7 +16,7 @@ use Rattle.rendezvous_model.specs.Run.{Run}
 use Rattle.rendezvous_rule.specs.Shown.{shown_by}
 use Rattle.rendezvous_rule.specs.Ran.{events_of, revision_after_go}
 use Rattle.rendezvous_rule.specs.Runs.{AlwaysRuns, RanGrows}
-use Rattle.rendezvous_runs.specs.Play.{last_moment}
+use Rattle.play_steps.specs.Play.{last_moment}
 use Rattle.run_laws.proofs.SafeRuns.{runs_never_fall}
 use Rattle.play_laws.specs.Runs.{items_of}
 use Rattle.play_laws.specs.Patient.{is_in_time}

@@ -18,10 +18,10 @@ use Rattle.rendezvous_model.specs.RoundStep.{Round}
 use Rattle.rendezvous_model.specs.Safe.{Safe}
 use Rattle.rendezvous_rule.specs.Shown.{shown_by}
 use Rattle.rendezvous_rule.specs.Ran.{events_of}
-use Rattle.rendezvous_runs.specs.Play.{is_over, last_moment}
-use Rattle.rendezvous_runs.specs.Rank.{is_counted}
+use Rattle.play_steps.specs.Play.{is_over, last_moment}
+use Rattle.play_steps.specs.Rank.{is_counted}
 use Rattle.rendezvous_rule.specs.Facets.{is_writing, past_writing, is_deciding, past_arriving}
-use Rattle.rendezvous_runs.proofs.Small.{pair, pair_sound, pair_padded}
+use Rattle.play_steps.proofs.Small.{pair, pair_sound, pair_padded}
 use Rattle.rule_laws.proofs.Opening.{opening_is_ruled}
 use Rattle.play_laws.specs.Needed.{RuleIsNeededForSafety, RuleIsNeededToGetOn, CalmIsNeeded, EightRoundsAreFew}
 

@@ -7,8 +7,8 @@ use Rattle.rendezvous_steps.specs.Events.{Running, happens, opening_running}
 use Rattle.rendezvous_model.specs.Outcome.{OutcomeShows}
 use Rattle.rendezvous_rule.specs.Shown.{shown_by}
 use Rattle.rendezvous_rule.specs.Ran.{events_of}
-use Rattle.rendezvous_runs.specs.Play.{is_over, play, moment_at}
-use Rattle.rendezvous_runs.proofs.Play.{item_of, play_over, play_next, moment_at_next, last_moment_is}
+use Rattle.play_steps.specs.Play.{is_over, play, moment_at}
+use Rattle.play_steps.proofs.Play.{item_of, play_over, play_next, moment_at_next, last_moment_is}
 use Rattle.run_laws.proofs.Few.{few_inner_items}
 use Rattle.play_laws.specs.Runs.{items_of}
 use Rattle.play_laws.specs.Outcomes.{PlaysAreListed}

@@ -13,7 +13,7 @@ use Rattle.rendezvous_steps.specs.Words.{families}
 use Rattle.rendezvous_steps.specs.Events.{Running, shows_finished}
 use Rattle.rendezvous_model.specs.Round.{Place, Out, In, Left, Halted, Withdrawn, is_unfinished, unfinished_count}
 use Rattle.rendezvous_rule.specs.Shown.{shown_by, place_before_end}
-use Rattle.rendezvous_runs.specs.Play.{is_over}
+use Rattle.play_steps.specs.Play.{is_over}
 
 not_both : (n : ℕ) → (n == 2) ≡ true → (n == 3) ≡ false
 not_both n e = grind (arith, nat_tests)

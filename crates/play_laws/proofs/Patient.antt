@@ -32,8 +32,8 @@ use Rattle.rendezvous_rule.specs.View.{views}
 use Rattle.rendezvous_rule.specs.Seen.{seen, place_seen}
 use Rattle.rendezvous_rule.specs.Rule.{RuleBy}
 use Rattle.rendezvous_rule.specs.Ran.{Unlisted, events_of, repeated, primary_result}
-use Rattle.rendezvous_runs.specs.Play.{is_over, last_moment}
-use Rattle.rendezvous_runs.proofs.Play.{last_moment_over, last_moment_next, last_moment_append}
+use Rattle.play_steps.specs.Play.{is_over, last_moment}
+use Rattle.play_steps.proofs.Play.{last_moment_over, last_moment_next, last_moment_append}
 use Rattle.rule_laws.specs.Kept.{Ruled}
 use Rattle.rule_laws.proofs.Assemble.{shown_is_seen}
 use Rattle.rule_laws.proofs.Facts.{none_settled}

@@ -16,8 +16,8 @@ use Rattle.rendezvous_steps.specs.declared.operations.Op.TheVariants.{Cas}
 use Rattle.rendezvous_steps.specs.declared.items.Event.TheVariants as event
 use Rattle.rendezvous_steps.specs.StepTable.{operation, operation_in, enter_operation, after, after_in, after_outside, after_kick}
 use Rattle.rendezvous_steps.specs.Events.{Running, shows_finished, happens, performs}
-use Rattle.rendezvous_runs.specs.Play.{is_over}
-use Rattle.rendezvous_runs.specs.Rank.{is_counted}
+use Rattle.play_steps.specs.Play.{is_over}
+use Rattle.play_steps.specs.Rank.{is_counted}
 use Rattle.rule_laws.specs.Kept.{Ruled}
 use Rattle.rendezvous_model.specs.Round.{Place, Out, In, Left, Halted, Withdrawn, Absent, Stage, Gathering, Going, DroppedByKick, DroppedBy, GroupPlace, Reported, State, nobody, is_unfinished, is_dropped, is_gathering, offline_arrived}
 use Rattle.rendezvous_model.specs.Outcome.{decide_of}

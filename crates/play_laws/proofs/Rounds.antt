@@ -19,9 +19,9 @@ use Rattle.rendezvous_model.specs.RoundStep.{thread_of, cause_of}
 use Rattle.rendezvous_rule.specs.Shown.{shown_by}
 use Rattle.rendezvous_rule.specs.Seen.{words_of}
 use Rattle.rendezvous_rule.specs.Ran.{events_of, repeated}
-use Rattle.rendezvous_runs.specs.Play.{is_over, last_moment}
-use Rattle.rendezvous_runs.specs.Rank.{is_counted, rank, all_ranks}
-use Rattle.rendezvous_runs.proofs.Play.{last_moment_over, last_moment_next, last_moment_append, last_moment_is}
+use Rattle.play_steps.specs.Play.{is_over, last_moment}
+use Rattle.play_steps.specs.Rank.{is_counted, rank, all_ranks}
+use Rattle.play_steps.proofs.Play.{last_moment_over, last_moment_next, last_moment_append, last_moment_is}
 use Rattle.rule_laws.specs.Kept.{Ruled}
 use Rattle.rule_laws.proofs.Assemble.{shown_is_seen}
 use Rattle.run_laws.proofs.Tables.{same_or_not}

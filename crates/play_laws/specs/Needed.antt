@@ -9,7 +9,7 @@ use Rattle.rendezvous_model.specs.RoundStep.{Round}
 use Rattle.rendezvous_model.specs.Safe.{Safe}
 use Rattle.rendezvous_rule.specs.Shown.{shown_by}
 use Rattle.rendezvous_rule.specs.Ran.{events_of}
-use Rattle.rendezvous_runs.specs.Play.{is_over, last_moment}
+use Rattle.play_steps.specs.Play.{is_over, last_moment}
 use Rattle.rule_laws.specs.Kept.{Ruled}
 use Rattle.play_laws.specs.Stuck.{SomeReady, rounds_in}
 

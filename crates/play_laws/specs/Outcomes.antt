@@ -10,7 +10,7 @@ use Rattle.rendezvous_steps.specs.Events.{Running, opening_running}
 use Rattle.rendezvous_model.specs.Outcome.{Outcome, OutcomeShows}
 use Rattle.rendezvous_rule.specs.Shown.{shown_by}
 use Rattle.rendezvous_rule.specs.Ran.{Listed, Unlisted, events_of}
-use Rattle.rendezvous_runs.specs.Play.{last_moment}
+use Rattle.play_steps.specs.Play.{last_moment}
 use Rattle.rule_laws.specs.Kept.{Ruled}
 use Rattle.play_laws.specs.Runs.{items_of}
 

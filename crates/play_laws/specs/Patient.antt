@@ -9,7 +9,7 @@ use Rattle.rendezvous_model.specs.Outcome.{Outcome, OutcomeShows}
 use Rattle.rendezvous_model.specs.Verdict.{LoadVerdict, Done}
 use Rattle.rendezvous_rule.specs.Shown.{shown_by}
 use Rattle.rendezvous_rule.specs.Ran.{Unlisted, events_of}
-use Rattle.rendezvous_runs.specs.Play.{last_moment}
+use Rattle.play_steps.specs.Play.{last_moment}
 use Rattle.play_laws.specs.Stuck.{IsEnough}
 
 -- no group with an offer refuses its write

@@ -10,7 +10,7 @@ use Rattle.rendezvous_model.specs.Safe.{Safe}
 use Rattle.rendezvous_model.specs.Run.{Run, FewInner, NeverFalls}
 use Rattle.rendezvous_model.specs.Excluded.{Excluded}
 use Rattle.rendezvous_rule.specs.Shown.{shown_by}
-use Rattle.rendezvous_runs.specs.Play.{play, moment_at}
+use Rattle.play_steps.specs.Play.{play, moment_at}
 use Rattle.run_laws.specs.Counted.{count_of}
 use Rattle.play_laws.specs.Lawful.{Lawful}
 

@@ -12,8 +12,8 @@ use Rattle.rendezvous_model.specs.Outcome.{Outcome, OutcomeShows}
 use Rattle.rendezvous_model.specs.Verdict.{end_at}
 use Rattle.rendezvous_rule.specs.Shown.{shown_by}
 use Rattle.rendezvous_rule.specs.Ran.{events_of}
-use Rattle.rendezvous_runs.specs.Play.{is_over, last_moment}
-use Rattle.rendezvous_runs.specs.Rank.{is_counted}
+use Rattle.play_steps.specs.Play.{is_over, last_moment}
+use Rattle.play_steps.specs.Rank.{is_counted}
 use Rattle.rule_laws.specs.Kept.{Ruled}
 
 -- an unfinished thread whose step is none that waits, idles or runs ordinary code

@@ -9,7 +9,7 @@ use Rattle.uc_text.specs.Digits.{hex8_of}
 use Rattle.uc_topology.specs.declared.fault.TopoCause.{TopoCause}
 use Rattle.uc_topology.specs.declared.fault.TopoCause.TheVariants as topo
 use Rattle.intel_format.specs.Date.{NamesDay, month_byte, day_byte, century_byte, year_byte}
-use Rattle.file_entries.specs.declared.facts.EntryFacts.{EntryFacts}
+use Rattle.entry_model.specs.declared.facts.EntryFacts.{EntryFacts}
 
 -- pieces of a text, one after another
 abbrev pub joined : List (List ℕ) → List ℕ

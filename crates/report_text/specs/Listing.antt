@@ -2,9 +2,9 @@
 use Rattle.std.specs.Prelude.{ℕ, ◌+◌, List, [], ◌∷◌, ◌++◌, length, drop, flat_map}
 use Rattle.uc_bytes.specs.declared.causes.Vendor.{Vendor}
 use Rattle.uc_bytes.specs.declared.causes.Vendor.TheVariants.{Intel, Amd}
-use Rattle.file_entries.specs.declared.facts.EntryFacts.{EntryFacts}
-use Rattle.file_entries.specs.Reading.{Reading, OfIntel, OfAmd}
-use Rattle.file_entries.specs.Entry.{Entry, served, entries_of}
+use Rattle.entry_model.specs.declared.facts.EntryFacts.{EntryFacts}
+use Rattle.entry_model.specs.Reading.{Reading, OfIntel, OfAmd}
+use Rattle.entry_model.specs.Entry.{Entry, served, entries_of}
 use Rattle.report_text.specs.Lines.{file_line, update_line, patch_line, pair_line, sig_line, IsDateText}
 
 -- each date has its text

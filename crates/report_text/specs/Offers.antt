@@ -2,10 +2,10 @@
 use Rattle.std.specs.Prelude.{◌≡◌, ℕ, ◌<◌, false, List, length, Option, Some, None, flat_map, slice_index_or}
 use Rattle.std.specs.List.{range_with_len}
 use Rattle.uc_topology.specs.Stated.{Machine, core_at, group_of, group_count, group_facts}
-use Rattle.file_entries.specs.declared.facts.EntryFacts.{EntryFacts}
-use Rattle.file_entries.specs.declared.facts.CoreFacts.{CoreFacts}
-use Rattle.file_entries.specs.Entry.{Entry}
-use Rattle.file_entries.specs.Selection.{IsOffer}
+use Rattle.entry_model.specs.declared.facts.EntryFacts.{EntryFacts}
+use Rattle.entry_model.specs.declared.facts.CoreFacts.{CoreFacts}
+use Rattle.entry_model.specs.Entry.{Entry}
+use Rattle.entry_model.specs.Selection.{IsOffer}
 use Rattle.report_text.specs.Lines.{offer_line, no_offer_line}
 
 -- the facts of the cores of a group

@@ -2,7 +2,7 @@
 use Rattle.std.specs.Prelude.{ℕ, ◌+◌, ◌*◌, ◌/◌, List, ◌++◌, length, take, drop, map, flat_map, codes}
 use Rattle.std.specs.List.{range_with_len}
 use Rattle.hex.specs.Hex.{encode_lower}
-use Rattle.file_entries.specs.Entry.{Entry}
+use Rattle.entry_model.specs.Entry.{Entry}
 use Rattle.report_text.specs.Listing.{entry_line}
 
 -- the bytes 32 by 32, the last piece being what is left

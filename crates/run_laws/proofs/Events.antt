@@ -12,7 +12,7 @@ use Rattle.rendezvous_steps.specs.Plan.{Plan}
 use Rattle.rendezvous_steps.specs.Words.{touched}
 use Rattle.rendezvous_steps.specs.StepTable.{operation, after}
 use Rattle.rendezvous_steps.specs.Events.{Running, put, happens, steps, performs, runs, runs_by, nmi_comes, nmi_by, nmi_offline, runs_ordinary, latches, idles, left_with_latch, is_outside, shows_held, shows_halted, shows_left, shows_withdrawn}
-use Rattle.rendezvous_runs.specs.Rank.{weight, rank}
+use Rattle.play_steps.specs.Rank.{weight, rank}
 use Rattle.run_laws.specs.Counted.{Falls, RanksFall}
 use Rattle.run_laws.proofs.Falls.{after_fits}
 use Rattle.run_laws.proofs.Tables.{put_same, put_other}

@@ -11,7 +11,7 @@ use Rattle.rendezvous_steps.specs.declared.items.What.{What}
 use Rattle.rendezvous_steps.specs.declared.items.What.TheVariants as what
 use Rattle.rendezvous_steps.specs.Plan.{Plan, is_primary, offline_from, sibling_from, offline_count}
 use Rattle.rendezvous_steps.specs.StepTable.{after, after_in, after_outside, outside_item, kick_at, loop_at, go_path, drop_path, withdraw_at, free_at, by_decision, by_release, polled, wait_in, with_result, to, told, exceeds}
-use Rattle.rendezvous_runs.specs.Rank.{others, weight, offlines_left, siblings_left, go_rank, drop_rank, path_rank, outside_rank, rank_in, rank}
+use Rattle.play_steps.specs.Rank.{others, weight, offlines_left, siblings_left, go_rank, drop_rank, path_rank, outside_rank, rank_in, rank}
 use Rattle.run_laws.proofs.Left.{offline_found, sibling_found}
 
 -- a thread's state in this phase

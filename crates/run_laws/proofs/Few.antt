@@ -14,9 +14,9 @@ use Rattle.rendezvous_steps.specs.StepTable.{opening, opening_phase}
 use Rattle.rendezvous_steps.specs.Events.{Running, happens, opening_running}
 use Rattle.rendezvous_model.specs.RoundStep.{thread_of}
 use Rattle.rendezvous_model.specs.Run.{is_inner, is_inner_of}
-use Rattle.rendezvous_runs.specs.Play.{is_over, play, last_moment}
-use Rattle.rendezvous_runs.specs.Rank.{is_counted, weight, offlines_left, siblings_left, rank_in, rank, all_ranks}
-use Rattle.rendezvous_runs.proofs.Play.{item_of}
+use Rattle.play_steps.specs.Play.{is_over, play, last_moment}
+use Rattle.play_steps.specs.Rank.{is_counted, weight, offlines_left, siblings_left, rank_in, rank, all_ranks}
+use Rattle.play_steps.proofs.Play.{item_of}
 use Rattle.run_laws.specs.Counted.{FewInnerItems, FewCounted, count_of}
 use Rattle.run_laws.proofs.Tables.{same_or_not}
 use Rattle.run_laws.proofs.Left.{offlines_few, siblings_few}

@@ -4,7 +4,7 @@ use Rattle.std.specs.List.{range_with_len}
 use Rattle.std.proofs.lemmas.List.Sums.{sum_by-cons, count_by-le-length}
 use Rattle.std.proofs.lemmas.List.FromFn.{length-range_with_len}
 use Rattle.rendezvous_steps.specs.Plan.{Plan, is_offline, is_sibling, offline_from, sibling_from}
-use Rattle.rendezvous_runs.specs.Rank.{offlines_left, siblings_left}
+use Rattle.play_steps.specs.Rank.{offlines_left, siblings_left}
 
 abbrev left_from : (ℕ → Bool) → ℕ → ℕ → ℕ
 left_from p k n = count_by p (range_with_len k n)

@@ -9,7 +9,7 @@ use Rattle.rendezvous_steps.specs.Plan.{Plan, offline_from, sibling_from, online
 use Rattle.rendezvous_steps.specs.Padded.{Padded}
 use Rattle.rendezvous_steps.specs.Events.{opening_running, happens, put}
 use Rattle.rendezvous_steps.specs.StepTable.{operation, after, opening}
-use Rattle.rendezvous_runs.specs.Play.{play}
+use Rattle.play_steps.specs.Play.{play}
 use Rattle.run_laws.specs.Counted.{count_of}
 use Rattle.run_laws.specs.Needed.{PaddedIsNeeded, TwoAThreadAreFew}
 

@@ -10,7 +10,7 @@ use Rattle.rendezvous_steps.specs.Plan.{Plan, is_primary, is_sibling}
 use Rattle.rendezvous_steps.specs.StepTable.{opening, opening_phase}
 use Rattle.rendezvous_steps.specs.Events.{Running, happens}
 use Rattle.rendezvous_model.specs.RoundStep.{thread_of}
-use Rattle.rendezvous_runs.specs.Rank.{is_counted, weight, offlines_left, siblings_left, rank_in, rank, all_ranks}
+use Rattle.play_steps.specs.Rank.{is_counted, weight, offlines_left, siblings_left, rank_in, rank, all_ranks}
 use Rattle.run_laws.specs.Counted.{Falls, AllRanksFall, FirstRanks}
 use Rattle.run_laws.proofs.Tables.{same_or_not}
 use Rattle.run_laws.proofs.Left.{offlines_few}

@@ -8,8 +8,8 @@ use Rattle.rendezvous_steps.specs.Padded.{Padded}
 use Rattle.rendezvous_steps.specs.Events.{Running, happens, opening_running}
 use Rattle.rendezvous_model.specs.RoundStep.{thread_of}
 use Rattle.rendezvous_model.specs.Run.{FewInner}
-use Rattle.rendezvous_runs.specs.Play.{play}
-use Rattle.rendezvous_runs.specs.Rank.{is_counted, weight, rank, all_ranks}
+use Rattle.play_steps.specs.Play.{play}
+use Rattle.play_steps.specs.Rank.{is_counted, weight, rank, all_ranks}
 
 -- An event lowers the rank of its thread by what its item counts, and leaves the other threads where they stand.
 pub record Falls (all : Bool) (plan : Plan) (t : ℕ) (before : Running) (after : Running × What) : Type 0 where

@@ -7,7 +7,7 @@ use Rattle.rendezvous_steps.specs.Padded.{Padded}
 use Rattle.rendezvous_steps.specs.Events.{opening_running}
 use Rattle.rendezvous_model.specs.Round.{State}
 use Rattle.rendezvous_model.specs.Run.{Run, NeverFalls}
-use Rattle.rendezvous_runs.specs.Play.{play}
+use Rattle.play_steps.specs.Play.{play}
 use Rattle.run_laws.specs.Counted.{count_of}
 
 -- where threads past the plan's last take part, more items count than the bound says

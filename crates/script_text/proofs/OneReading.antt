@@ -1,7 +1,7 @@
 -- Reading gives what the text states, or its first fault, and nothing else.
 use Rattle.std.proofs.Common.{◌≡◌, ◌≢◌, ℕ, Bool, true, false, cond, not, List, [], ◌∷◌, ◌++◌, Option, Some, None, Result, Ok, Err, refl, sym, ap, subst, ◌∙◌, ◌⊎◌, inl, inr}
-use Rattle.first_fault.specs.Checks.{IsFirst, first_of}
-use Rattle.first_fault.proofs.Search.{first-from_find, pass-from_find, find-from_first, find-from_pass}
+use Rattle.fault_rule.specs.Checks.{IsFirst, first_of}
+use Rattle.fault_rule.proofs.Search.{first-from_find, pass-from_find, find-from_first, find-from_pass}
 use Rattle.uc_text.specs.Lines.{counted_lines, words_of}
 use Rattle.script_text.specs.declared.fault.ScriptCause.{ScriptCause}
 use Rattle.script_text.specs.declared.fault.ScriptCause.TheVariants.{Head, Word, NoEnd}

@@ -1,6 +1,6 @@
 -- What a text states, computed line by line.
 use Rattle.std.specs.Prelude.{ℕ, List, [], ◌∷◌, Option, Some, None, Result, Ok, Err}
-use Rattle.first_fault.specs.Checks.{first_of}
+use Rattle.fault_rule.specs.Checks.{first_of}
 use Rattle.uc_text.specs.Lines.{counted_lines, words_of}
 use Rattle.script_text.specs.declared.fault.ScriptCause.{ScriptCause}
 use Rattle.script_text.specs.declared.fault.ScriptCause.TheVariants.{Head, Word, NoEnd}

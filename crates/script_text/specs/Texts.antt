@@ -1,6 +1,6 @@
 -- What a text states, as a relation between the whole text and the script, and where it first goes wrong.
 use Rattle.std.specs.Prelude.{◌≡◌, ◌≢◌, ◌⊎◌, ℕ, true, List, [], ◌∷◌, ◌++◌, Some}
-use Rattle.first_fault.specs.Checks.{AllPass, IsFirst}
+use Rattle.fault_rule.specs.Checks.{AllPass, IsFirst}
 use Rattle.uc_text.specs.Lines.{counted_lines, words_of}
 use Rattle.script_text.specs.declared.fault.ScriptCause.{ScriptCause}
 use Rattle.script_text.specs.declared.fault.ScriptCause.TheVariants.{Head, NoEnd}

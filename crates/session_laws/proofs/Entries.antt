@@ -9,13 +9,13 @@ use Rattle.intel_format.specs.File as intel
 use Rattle.amd_format.specs.Equiv.{rows_of}
 use Rattle.amd_format.specs.Patch.{IsSection, patch_of}
 use Rattle.amd_format.specs.File as amd
-use Rattle.file_entries.specs.declared.facts.CoreFacts.{CoreFacts}
-use Rattle.file_entries.specs.Reading.{Reading, OfIntel, OfAmd, IsReading}
-use Rattle.file_entries.specs.Entry.{Entry, patch_entry, update_entry, entries_of_updates, entries_of_sections, entries_of_containers, entries_of, entries_from}
-use Rattle.file_entries.specs.Selection.{IsOffer}
+use Rattle.entry_model.specs.declared.facts.CoreFacts.{CoreFacts}
+use Rattle.entry_model.specs.Reading.{Reading, OfIntel, OfAmd, IsReading}
+use Rattle.entry_model.specs.Entry.{Entry, patch_entry, update_entry, entries_of_updates, entries_of_sections, entries_of_containers, entries_of, entries_from}
+use Rattle.entry_model.specs.Selection.{IsOffer}
 use Rattle.entry_laws.proofs.Offers.{within}
-use Rattle.file_reads.specs.Accepts.{AreAccepted}
-use Rattle.file_reads.specs.Reads.{Read, files_of}
+use Rattle.read_model.specs.Accepts.{AreAccepted}
+use Rattle.read_model.specs.Reads.{Read, files_of}
 use Rattle.session_steps.specs.Offers.{entry_at}
 use Rattle.session_steps.specs.Step.{ReadAll}
 

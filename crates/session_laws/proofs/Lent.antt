@@ -5,7 +5,7 @@ use Rattle.region_steps.specs.Region.{Patches, lowest_run, blocks_of}
 use Rattle.machine_steps.specs.Puts.{Puts, no_puts, put_in_run, put_unless_there, put_offer, put_offers, first_of, patch_at}
 use Rattle.session_steps.specs.State.{machine_of}
 use Rattle.session_steps.specs.Offers.{entry_at, bytes_at, offer_of}
-use Rattle.file_entries.specs.Entry.{Entry}
+use Rattle.entry_model.specs.Entry.{Entry}
 use Rattle.session_laws.specs.Lent.{IsLent, BootsLend, LoadsLend}
 use Rattle.session_laws.proofs.Entries.{HasRevision, entries_have}
 use Rattle.session_laws.proofs.Parts.{IsOffered, at_boot, at_load}

@@ -5,9 +5,9 @@ use Rattle.std.proofs.lemmas.Bool.{false≢true, cases_Bool, cases_eq, cases_lt,
 use Rattle.std.proofs.lemmas.Grind.{common_steps}
 use Rattle.std.proofs.lemmas.List.{get_or_past}
 use Rattle.report_text.specs.Offers.{AreOffers}
-use Rattle.file_entries.specs.declared.facts.CoreFacts.{CoreFacts}
-use Rattle.file_entries.specs.Entry.{Entry}
-use Rattle.file_entries.specs.Selection.{IsOffer}
+use Rattle.entry_model.specs.declared.facts.CoreFacts.{CoreFacts}
+use Rattle.entry_model.specs.Entry.{Entry}
+use Rattle.entry_model.specs.Selection.{IsOffer}
 use Rattle.machine_steps.specs.declared.states.ThreadState.TheVariants.{Cold}
 use Rattle.machine_steps.specs.Hardware.{Setting, Hardware, is_on, is_cold, all_cold}
 use Rattle.session_steps.specs.State as session

@@ -3,8 +3,8 @@ use Rattle.std.proofs.Common.{◌≡◌, ◌≢◌, ℕ, ◌<◌, ◌≤◌, Boo
 use Rattle.std.proofs.Math.Nat.{le_refl}
 use Rattle.std.proofs.lemmas.Bool.{false≢true, lt-ltb, le-ltb, eq-eqb, not-false, or_left, and_from}
 use Rattle.uc_topology.specs.Stated.{IsPartition, primary, lead}
-use Rattle.file_entries.specs.Entry.{Entry}
-use Rattle.file_reads.specs.Reads.{Read}
+use Rattle.entry_model.specs.Entry.{Entry}
+use Rattle.read_model.specs.Reads.{Read}
 use Rattle.region_steps.proofs.Rows.{none_found}
 use Rattle.rendezvous_steps.specs.declared.steps.Kind.TheVariants as kind
 use Rattle.rendezvous_steps.specs.Plan.{Plan, Sound}

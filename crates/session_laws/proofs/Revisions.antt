@@ -4,7 +4,7 @@ use Rattle.std.proofs.Math.Nat.{le_refl, le_trans}
 use Rattle.std.proofs.lemmas.Bool.{cases_lt, lt-ltb}
 use Rattle.std.proofs.lemmas.List.{get_or_past, get_or_default}
 use Rattle.std.proofs.lemmas.List.FromFn.{length-map-range_with_len}
-use Rattle.file_reads.specs.Reads.{Read}
+use Rattle.read_model.specs.Reads.{Read}
 use Rattle.rendezvous_steps.specs.declared.ends.Beat.{Beat}
 use Rattle.rendezvous_steps.specs.Plan.{Plan}
 use Rattle.rendezvous_model.specs.Outcome.{Outcome}

@@ -1,8 +1,8 @@
 -- Each command leads from a state that stands to one that does.
 use Rattle.std.proofs.Common.{◌≡◌, ◌≢◌, ℕ, ◌<◌, ◌≤◌, Bool, true, false, not, ◌==◌, if◌then◌else◌, List, [], ◌∷◌, length, Option, Some, None, Result, Ok, Err, refl, sym, ap, ◌∙◌, ◌⊎◌, inl, inr, subst, arith}
 use Rattle.std.proofs.lemmas.Bool.{true≢false, false≢true, cases_Bool, eq-eqb, eqb-false, not-false}
-use Rattle.file_entries.specs.Entry.{Entry}
-use Rattle.file_reads.specs.Reads.{Read}
+use Rattle.entry_model.specs.Entry.{Entry}
+use Rattle.read_model.specs.Reads.{Read}
 use Rattle.rendezvous_steps.specs.declared.ends.Beat.{Beat}
 use Rattle.rendezvous_steps.specs.Plan.{Plan}
 use Rattle.rendezvous_model.specs.Outcome.{Outcome}

@@ -1,7 +1,7 @@
 -- What the region lends once the patches of all offers of a boot or a load were put.
 use Rattle.std.specs.Prelude.{◌≡◌, ℕ, Bool, List, Option, Some, Ok}
-use Rattle.file_entries.specs.Entry.{Entry}
-use Rattle.file_reads.specs.Reads.{Read}
+use Rattle.entry_model.specs.Entry.{Entry}
+use Rattle.read_model.specs.Reads.{Read}
 use Rattle.report_text.specs.Offers.{AreOffers}
 use Rattle.machine_steps.specs.BringUps.{revision}
 use Rattle.machine_steps.specs.Puts.{Puts, no_puts, put_offers, first_of, patch_at}

@@ -1,8 +1,8 @@
 -- The plan of a load that finds all threads that it needs, and offers something.
 use Rattle.std.specs.Prelude.{◌≡◌, ℕ, Bool, List, Option, Ok}
 use Rattle.uc_topology.specs.Stated.{IsPartition}
-use Rattle.file_entries.specs.Entry.{Entry}
-use Rattle.file_reads.specs.Reads.{Read}
+use Rattle.entry_model.specs.Entry.{Entry}
+use Rattle.read_model.specs.Reads.{Read}
 use Rattle.rendezvous_steps.specs.Plan.{Sound}
 use Rattle.rendezvous_steps.specs.Padded.{Padded}
 use Rattle.machine_steps.specs.Puts.{Puts, no_puts, put_offers}

@@ -1,8 +1,8 @@
 -- The offers of a boot and of a load.
 use Rattle.std.proofs.Common.{ℕ, ◌<◌, Bool, true, false, List, length, get_or, Option, Some, None}
 use Rattle.std.specs.Prelude.{All, IfSome}
-use Rattle.file_entries.specs.declared.facts.CoreFacts.{CoreFacts}
-use Rattle.file_entries.specs.Entry.{Entry}
+use Rattle.entry_model.specs.declared.facts.CoreFacts.{CoreFacts}
+use Rattle.entry_model.specs.Entry.{Entry}
 use Rattle.uc_catalog.specs.Contents.{Contents}
 use Rattle.uc_select.specs.Offers.{IsOfferAt}
 use Rattle.session_steps.specs.Offers.{IsOfferWhere}

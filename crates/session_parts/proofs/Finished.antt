@@ -10,7 +10,7 @@ use Rattle.patch_pool.specs.declared.pool.PatchId.{PatchId}
 use Rattle.machine_steps.specs.BringUps.{revision}
 use Rattle.machine_steps.specs.Puts.{first_of, patch_at, swept}
 use Rattle.early_load.specs.Caches.{place_at}
-use Rattle.file_entries.specs.Entry.{Entry}
+use Rattle.entry_model.specs.Entry.{Entry}
 use Rattle.session_steps.specs.State.{Setting, State, machine_of}
 use Rattle.session_steps.specs.Offers.{offer_of, put_revision, plan_of}
 use Rattle.session_steps.specs.Did.{kept_where, cached_after, revision_after, loaded}

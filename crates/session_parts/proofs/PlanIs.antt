@@ -12,7 +12,7 @@ use Rattle.machine_steps.specs.Puts.{Puts, patch_at}
 use Rattle.machine_steps.specs.BringUps.{revision}
 use Rattle.ctl_words.specs.declared.plans.Plan.{Plan as Tables}
 use Rattle.ctl_words.specs.Plans.{plan_of, TablesFit}
-use Rattle.file_entries.specs.Entry.{Entry}
+use Rattle.entry_model.specs.Entry.{Entry}
 use Rattle.session_steps.specs.State.{Setting, State, machine_of}
 use Rattle.session_steps.specs.Offers.{table, kind_of, offer_of, put_revision, plan_of as load_plan}
 use Rattle.session_parts.specs.Loads.{ArePlaces, IsPut}

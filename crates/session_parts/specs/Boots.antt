@@ -3,7 +3,7 @@ use Rattle.std.specs.Prelude.{◌≡◌, ℕ, true, false, List, Option, Result,
 use Rattle.machine_steps.specs.declared.bring_ups.BringUp.{BringUp}
 use Rattle.machine_steps.specs.Hardware.{is_off}
 use Rattle.machine_steps.specs.Puts.{Puts, no_puts, put_offers, first_of}
-use Rattle.file_entries.specs.Entry.{Entry}
+use Rattle.entry_model.specs.Entry.{Entry}
 use Rattle.early_load.specs.declared.answers.BootAnswer.{BootAnswer}
 use Rattle.early_load.specs.declared.answers.BootAnswer.TheVariants.{Booted, PoolFull}
 use Rattle.session_steps.specs.State.{Setting, State}

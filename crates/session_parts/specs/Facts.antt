@@ -1,7 +1,7 @@
 -- What the cores of a group are.
 use Rattle.std.specs.Prelude.{ℕ}
 use Rattle.uc_topology.specs.Stated.{Machine, group_facts}
-use Rattle.file_entries.specs.declared.facts.CoreFacts.{CoreFacts}
+use Rattle.entry_model.specs.declared.facts.CoreFacts.{CoreFacts}
 
 -- the facts of the cores of a group, at a revision
 abbrev pub facts_at : Machine → ℕ → ℕ → CoreFacts

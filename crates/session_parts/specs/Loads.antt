@@ -1,8 +1,8 @@
 -- The steps of a load.
 use Rattle.std.specs.Prelude.{◌≡◌, ℕ, ◌==◌, nat_lt, Bool, if◌then◌else◌, List, length, slice_index, Option, Some, None}
 use Rattle.std.specs.Prelude.{Ok}
-use Rattle.file_entries.specs.declared.facts.CoreFacts.{CoreFacts}
-use Rattle.file_entries.specs.Entry.{Entry}
+use Rattle.entry_model.specs.declared.facts.CoreFacts.{CoreFacts}
+use Rattle.entry_model.specs.Entry.{Entry}
 use Rattle.region_steps.specs.Region.{Patches}
 use Rattle.patch_pool.specs.declared.pool.PatchId.{PatchId}
 use Rattle.machine_steps.specs.Hardware.{Hardware}

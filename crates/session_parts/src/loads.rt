@@ -3,7 +3,7 @@
 ghost use Rattle.std.specs.Prelude.{◌≡◌, ℕ, ◌<◌, ◌≤◌, true, IsTrue, List, Option, length, slice_index, IfOk, IfErr};
 ghost use Rattle.std.specs.Prelude.{Err};
 ghost use Rattle.uc_topology.specs.Stated.{group_count};
-ghost use Rattle.file_entries.specs.Entry.{Entry};
+ghost use Rattle.entry_model.specs.Entry.{Entry};
 ghost use Rattle.rendezvous_model.specs.Outcome.{Outcome};
 ghost use Rattle.machine_steps.specs.Hardware.{is_on};
 ghost use Rattle.hw_machine.specs.Machine.{setting_of as machine_setting, hardware_of};

@@ -3,8 +3,8 @@
 ghost use Rattle.std.specs.Prelude.{◌≡◌, ℕ, ◌<◌, ◌≤◌, Bool, List, Option, Some, length, map, option_map};
 ghost use Rattle.std.specs.List.{range_with_len};
 ghost use Rattle.uc_topology.specs.Stated.{group_count};
-ghost use Rattle.file_entries.specs.Entry.{Entry};
-ghost use Rattle.file_reads.specs.Reads.{Read};
+ghost use Rattle.entry_model.specs.Entry.{Entry};
+ghost use Rattle.read_model.specs.Reads.{Read};
 ghost use Rattle.machine_steps.specs.BringUps.{revision};
 ghost use Rattle.machine_steps.specs.Puts.{patch_at};
 ghost use Rattle.early_load.specs.Caches.{first_block, HoldsPatch};

@@ -6,7 +6,7 @@ use Rattle.std.specs.Prelude.{◌==◌, slice_index}
 use Rattle.std.proofs.lemmas.Bool.{lt-ltb, and_from, eq-eqb}
 use Rattle.region_steps.proofs.Rows.{any_passes, none_passes}
 use Rattle.uc_topology.specs.Stated.{Machine, core_at, group_of, group_count}
-use Rattle.file_entries.specs.Entry.{Entry}
+use Rattle.entry_model.specs.Entry.{Entry}
 use Rattle.rendezvous_steps.specs.declared.steps.Kind.{Kind}
 use Rattle.rendezvous_steps.specs.declared.steps.Kind.TheVariants as kind
 use Rattle.rendezvous_steps.specs.declared.ends.End.{End}

@@ -6,7 +6,7 @@ ghost use Rattle.rendezvous_steps.specs.ItemText.{result_text};
 ghost use Rattle.session_text.specs.Lines.{up_line, written_text, load_offer_line, end_text, cpu_line, core_line};
 ghost use Rattle.session_steps.specs.Did.{ups_text};
 
-use file_entries::EntryFacts;
+use entry_model::EntryFacts;
 use machine_steps::{BringUp, Written};
 use rendezvous_steps::{End, ThreadResult};
 use uc_bytes::Vendor;

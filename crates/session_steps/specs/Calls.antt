@@ -1,6 +1,6 @@
 -- What the outside of a session means, and what a call on a session finds and leaves.
 use Rattle.std.specs.Prelude.{ℕ, Bool, List}
-use Rattle.file_reads.specs.Reads.{Read, AreHeld}
+use Rattle.read_model.specs.Reads.{Read, AreHeld}
 use Rattle.rendezvous_rule.specs.Runs.{RunOf}
 use Rattle.session_steps.specs.State.{State}
 

@@ -2,7 +2,7 @@
 use Rattle.std.specs.Prelude.{ℕ, ◌==◌, if◌then◌else◌, List, [], ◌++◌, length, Option, Some, None, Result, Ok, Err}
 use Rattle.std.specs.Prelude.{flat_map, slice_index_or}
 use Rattle.std.specs.List.{range_with_len}
-use Rattle.file_reads.specs.Reads.{Read}
+use Rattle.read_model.specs.Reads.{Read}
 use Rattle.rendezvous_steps.specs.declared.steps.Kind.{Kind}
 use Rattle.rendezvous_steps.specs.declared.steps.Kind.TheVariants as kind
 use Rattle.rendezvous_steps.specs.Plan.{Plan, threads_from}

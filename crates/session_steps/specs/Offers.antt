@@ -3,9 +3,9 @@ use Rattle.std.specs.Prelude.{◌≡◌, ℕ, ◌<◌, nat_lt, Bool, true, false
 use Rattle.std.specs.Prelude.{None, option_map, flat_map, slice_index_or}
 use Rattle.std.specs.List.{range_with_len}
 use Rattle.uc_topology.specs.Stated.{core_at, group_of, group_count, group_facts, primary}
-use Rattle.file_entries.specs.declared.facts.CoreFacts.{CoreFacts}
-use Rattle.file_entries.specs.Entry.{Entry, patch_entry}
-use Rattle.file_entries.specs.Selection.{IsOffer}
+use Rattle.entry_model.specs.declared.facts.CoreFacts.{CoreFacts}
+use Rattle.entry_model.specs.Entry.{Entry, patch_entry}
+use Rattle.entry_model.specs.Selection.{IsOffer}
 use Rattle.rendezvous_steps.specs.declared.steps.Kind.{Kind}
 use Rattle.rendezvous_steps.specs.declared.steps.Kind.TheVariants as kind
 use Rattle.rendezvous_steps.specs.Plan.{Plan}

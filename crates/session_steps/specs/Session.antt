@@ -1,7 +1,7 @@
 -- A session: its commands one after another, from the opening state on, until they end or one ends the session; the
 -- text that it writes; and what it answers.
 use Rattle.std.specs.Prelude.{ℕ, ◌+◌, Bool, true, false, ◌&&◌, List, [], ◌∷◌, ◌++◌, Option, Some, None}
-use Rattle.file_reads.specs.Reads.{Read}
+use Rattle.read_model.specs.Reads.{Read}
 use Rattle.rendezvous_rule.specs.Runs.{RunOf}
 use Rattle.script_text.specs.declared.command.Command.{Command}
 use Rattle.session_text.specs.declared.answers.CommandAnswer.{CommandAnswer}

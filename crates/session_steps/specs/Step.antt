@@ -3,9 +3,9 @@
 use Rattle.std.specs.Prelude.{◌≡◌, ℕ, suc, Bool, true, false, List, [], ◌∷◌, ◌++◌, length, Option, Some, None, Result}
 use Rattle.std.specs.Prelude.{Ok, Err}
 use Rattle.uc_bytes.specs.declared.causes.FileFault.{FileFault}
-use Rattle.file_entries.specs.Reading.{Reading}
-use Rattle.file_entries.specs.Entry.{Entry, entries_from}
-use Rattle.file_reads.specs.Reads.{Read, Reads, AllRead, NotRead, Refused}
+use Rattle.entry_model.specs.Reading.{Reading}
+use Rattle.entry_model.specs.Entry.{Entry, entries_from}
+use Rattle.read_model.specs.Reads.{Read, Reads, AllRead, NotRead, Refused}
 use Rattle.report_text.specs.Offers.{AreOffers}
 use Rattle.rendezvous_steps.specs.declared.ends.Beat.{Beat}
 use Rattle.rendezvous_steps.specs.Plan.{Plan, Sound}

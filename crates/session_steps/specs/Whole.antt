@@ -2,8 +2,8 @@
 use Rattle.std.specs.Prelude.{◌≡◌, ℕ, Bool, true, false, IsTrue, List, ◌++◌}
 use Rattle.uc_io.specs.Faults.{Rose}
 use Rattle.uc_io.specs.Writing.{Grew}
-use Rattle.top_call.specs.Written.{IsFront}
-use Rattle.file_reads.specs.Reads.{Read}
+use Rattle.status_rule.specs.Written.{IsFront}
+use Rattle.read_model.specs.Reads.{Read}
 use Rattle.script_text.specs.declared.command.Command.{Command}
 use Rattle.session_text.specs.declared.answers.SessionAnswer.{SessionAnswer}
 use Rattle.session_text.specs.declared.answers.SessionAnswer.TheVariants as session

@@ -11,3 +11,9 @@
 //! - `Played`: what a call that runs one command came to, also where a write fails or memory runs out. `Whole`: the
 //!   same of a call that runs all commands of a script.
 #![tactic(auto)]
+
+// What a session speaks of, passed on: a crate above may name it through this one.
+pub use machine_steps;
+pub use rendezvous_steps;
+pub use script_text;
+pub use session_text;

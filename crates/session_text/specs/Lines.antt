@@ -10,7 +10,7 @@ use Rattle.machine_steps.specs.declared.answers.HotAnswer.TheVariants as hot
 use Rattle.machine_steps.specs.declared.bring_ups.BringUp.{BringUp}
 use Rattle.machine_steps.specs.declared.bring_ups.Written.{Written}
 use Rattle.machine_steps.specs.declared.bring_ups.Written.TheVariants as written
-use Rattle.file_entries.specs.declared.facts.EntryFacts.{EntryFacts}
+use Rattle.entry_model.specs.declared.facts.EntryFacts.{EntryFacts}
 use Rattle.report_text.specs.Lines.{cause_text, safe_text}
 use Rattle.session_text.specs.declared.answers.CommandAnswer.{CommandAnswer}
 use Rattle.session_text.specs.declared.answers.CommandAnswer.TheVariants as command

@@ -6,7 +6,7 @@ use Rattle.std.proofs.lemmas.List.{get_or_default}
 use Rattle.std.proofs.lemmas.List.FromFn.{get_or-map-range_with_len}
 use Rattle.std.proofs.lemmas.Option.{get_or_from_slice_get, none-some}
 use Rattle.uc_bytes.specs.Words.{word}
-use Rattle.file_entries.specs.Entry.{Entry, patch_entry}
+use Rattle.entry_model.specs.Entry.{Entry, patch_entry}
 use Rattle.rendezvous_steps.specs.declared.ends.Beat.{Beat}
 use Rattle.rendezvous_steps.specs.Plan.{Plan, Sound}
 use Rattle.rendezvous_steps.specs.Padded.{Padded}

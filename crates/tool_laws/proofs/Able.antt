@@ -2,44 +2,44 @@
 use Rattle.std.proofs.Common.{◌≡◌, ℕ, suc, ◌+◌, ◌<◌, ◌≤◌, ◌==◌, Bool, true, false, not, ◌&&◌, if◌then◌else◌, List, [], ◌∷◌, ◌++◌, length, map, get_or, Option, Some, None, Result, Ok, Err, refl, sym, ap, ◌∙◌, subst, inl, inr, arith, true≢false, length-append}
 use Rattle.std.proofs.lemmas.Bool.{cases_lt, lt-ltb}
 use Rattle.std.proofs.lemmas.List.{get_or_append_left, get_or-append-add}
-use Rattle.file_entries.specs.declared.facts.CoreFacts.{CoreFacts}
-use Rattle.file_entries.specs.Reading.{Reading}
-use Rattle.file_entries.specs.Entry.{Entry}
+use Rattle.tool_text.specs.entry_model.declared.facts.CoreFacts.{CoreFacts}
+use Rattle.tool_text.specs.entry_model.Reading.{Reading}
+use Rattle.tool_text.specs.entry_model.Entry.{Entry}
 use Rattle.entry_laws.proofs.Offers.{one_offer}
-use Rattle.file_reads.specs.Accepts.{AreAccepted}
-use Rattle.file_reads.specs.Reads.{Read, AreHeld, Outcome, AllRead, NotRead, Refused, Reads}
-use Rattle.file_reads.proofs.Outcomes.{all_or_not_read}
-use Rattle.report_text.specs.Offers.{AreOffers, facts_of_group}
-use Rattle.rendezvous_steps.specs.declared.ends.Beat.{Beat}
-use Rattle.rendezvous_steps.specs.Plan.{Plan}
-use Rattle.rendezvous_steps.specs.Padded.{Padded}
-use Rattle.rendezvous_model.specs.Verdict.{LoadVerdict}
-use Rattle.rendezvous_model.specs.Verdict as verdict
+use Rattle.read_model.specs.Accepts.{AreAccepted}
+use Rattle.read_model.specs.Reads.{Read, AreHeld, Outcome, AllRead, NotRead, Refused, Reads}
+use Rattle.read_model.proofs.Outcomes.{all_or_not_read}
+use Rattle.tool_text.specs.report_text.Offers.{AreOffers, facts_of_group}
+use Rattle.tool_text.specs.rendezvous_steps.declared.ends.Beat.{Beat}
+use Rattle.tool_text.specs.rendezvous_steps.Plan.{Plan}
+use Rattle.tool_text.specs.rendezvous_steps.Padded.{Padded}
+use Rattle.tool_text.specs.rendezvous_model.Verdict.{LoadVerdict}
+use Rattle.tool_text.specs.rendezvous_model.Verdict as verdict
 use Rattle.round_laws.specs.Laws.{VerdictIsOne}
 use Rattle.play_laws.specs.Stuck.{IsEnough}
 use Rattle.play_laws.specs.Patient.{NoneRefuses, PatientIsDone}
-use Rattle.rendezvous_steps.specs.ItemText.{item_line}
-use Rattle.machine_steps.specs.declared.answers.HotAnswer.{HotAnswer}
-use Rattle.machine_steps.specs.declared.answers.HotAnswer.TheVariants as hot
-use Rattle.machine_steps.specs.declared.states.Power.TheVariants.{On}
-use Rattle.machine_steps.specs.declared.states.ThreadState.TheVariants.{Offline}
-use Rattle.machine_steps.specs.Hardware as hardware
-use Rattle.machine_steps.specs.Hardware.{Hardware, is_on, is_asleep, is_up, with_power, with_thread, suspended}
-use Rattle.machine_steps.specs.Calls as calls
-use Rattle.machine_steps.specs.BringUps.{AllBrought, resume_from}
-use Rattle.machine_steps.specs.Puts.{Puts, no_puts, put_offers}
+use Rattle.tool_text.specs.rendezvous_steps.ItemText.{item_line}
+use Rattle.tool_text.specs.machine_steps.declared.answers.HotAnswer.{HotAnswer}
+use Rattle.tool_text.specs.machine_steps.declared.answers.HotAnswer.TheVariants as hot
+use Rattle.tool_text.specs.machine_steps.declared.states.Power.TheVariants.{On}
+use Rattle.tool_text.specs.machine_steps.declared.states.ThreadState.TheVariants.{Offline}
+use Rattle.tool_text.specs.machine_steps.Hardware as hardware
+use Rattle.tool_text.specs.machine_steps.Hardware.{Hardware, is_on, is_asleep, is_up, with_power, with_thread, suspended}
+use Rattle.tool_text.specs.machine_steps.Calls as calls
+use Rattle.tool_text.specs.machine_steps.BringUps.{AllBrought, resume_from}
+use Rattle.tool_text.specs.machine_steps.Puts.{Puts, no_puts, put_offers}
 use Rattle.script_text.specs.declared.command.Command.{Command}
 use Rattle.script_text.specs.declared.command.Command.TheVariants as command
-use Rattle.session_text.specs.declared.answers.CommandAnswer.{CommandAnswer}
-use Rattle.session_text.specs.declared.answers.CommandAnswer.TheVariants.{Done, Hot, Load}
-use Rattle.session_text.specs.declared.answers.LoadAnswer.TheVariants as load
-use Rattle.session_text.specs.declared.answers.SessionAnswer.{SessionAnswer}
-use Rattle.session_text.specs.declared.answers.SessionAnswer.TheVariants as session
-use Rattle.session_steps.specs.State.{Setting, State, machine_of, cached_patches, takes_part}
-use Rattle.session_steps.specs.Offers.{bytes_at, offer_of, facts_now, IsOfferWhere, AreLoadOffers, put_revision, plan_of}
-use Rattle.session_steps.specs.Did.{Did, by_row, by_bring_ups}
-use Rattle.session_steps.specs.Step.{SessionStep, ReadAll, BootRow, LoadRow, Meets, answer_of, online_from}
-use Rattle.session_steps.specs.Session.{StepsFrom, ends_session, left_to_run, is_done, all_done, all_reads, ended_by, or_else, first_end, answer_by, session_answer}
+use Rattle.tool_text.specs.session_text.declared.answers.CommandAnswer.{CommandAnswer}
+use Rattle.tool_text.specs.session_text.declared.answers.CommandAnswer.TheVariants.{Done, Hot, Load}
+use Rattle.tool_text.specs.session_text.declared.answers.LoadAnswer.TheVariants as load
+use Rattle.tool_text.specs.session_text.declared.answers.SessionAnswer.{SessionAnswer}
+use Rattle.tool_text.specs.session_text.declared.answers.SessionAnswer.TheVariants as session
+use Rattle.tool_text.specs.session_steps.State.{Setting, State, machine_of, cached_patches, takes_part}
+use Rattle.tool_text.specs.session_steps.Offers.{bytes_at, offer_of, facts_now, IsOfferWhere, AreLoadOffers, put_revision, plan_of}
+use Rattle.tool_text.specs.session_steps.Did.{Did, by_row, by_bring_ups}
+use Rattle.tool_text.specs.session_steps.Step.{SessionStep, ReadAll, BootRow, LoadRow, Meets, answer_of, online_from}
+use Rattle.tool_text.specs.session_steps.Session.{StepsFrom, ends_session, left_to_run, is_done, all_done, all_reads, ended_by, or_else, first_end, answer_by, session_answer}
 use Rattle.session_laws.proofs.Parts.{offered_within}
 use Rattle.session_laws.proofs.Plans.{offer_in}
 use Rattle.tool_text.specs.Commands.{entries_of_all}

@@ -1,32 +1,32 @@
 -- A session is short, or ends with a thread that halted, exactly where what its commands did says so.
 use Rattle.std.proofs.Common.{◌≡◌, ◌≢◌, ◌⊎◌, ◌↔◌, ℕ, zero, suc, Bool, true, false, ◌&&◌, List, [], ◌∷◌, Option, Some, None, Result, Ok, Err, slice_get, refl, sym, ap, ◌∙◌, subst, inl, inr, true≢false}
-use Rattle.top_call.specs.declared.status.Status.{Status}
-use Rattle.top_call.specs.declared.status.Status.TheVariants as statuses
-use Rattle.top_call.specs.declared.status.Status.TheVariants.{BadInput, ReadFault}
+use Rattle.status_rule.specs.declared.status.Status.{Status}
+use Rattle.status_rule.specs.declared.status.Status.TheVariants as statuses
+use Rattle.status_rule.specs.declared.status.Status.TheVariants.{BadInput, ReadFault}
 use Rattle.uc_topology.specs.Stated.{Machine}
-use Rattle.file_reads.specs.Reads.{Read, Outcome, AllRead, NotRead, Refused}
-use Rattle.rendezvous_steps.specs.declared.ends.Beat.{Beat}
-use Rattle.rendezvous_steps.specs.Plan.{Plan}
-use Rattle.rendezvous_model.specs.Verdict.{Verdict, LoadVerdict}
-use Rattle.rendezvous_model.specs.Verdict as verdict
-use Rattle.rendezvous_rule.specs.Runs.{RunOf}
+use Rattle.read_model.specs.Reads.{Read, Outcome, AllRead, NotRead, Refused}
+use Rattle.tool_text.specs.rendezvous_steps.declared.ends.Beat.{Beat}
+use Rattle.tool_text.specs.rendezvous_steps.Plan.{Plan}
+use Rattle.tool_text.specs.rendezvous_model.Verdict.{Verdict, LoadVerdict}
+use Rattle.tool_text.specs.rendezvous_model.Verdict as verdict
+use Rattle.tool_text.specs.rendezvous_rule.Runs.{RunOf}
 use Rattle.round_laws.specs.Laws.{VerdictIsOne}
-use Rattle.machine_steps.specs.declared.answers.HotAnswer.{HotAnswer}
-use Rattle.machine_steps.specs.Hardware.{Hardware}
-use Rattle.machine_steps.specs.Calls as calls
-use Rattle.machine_steps.specs.BringUps.{AllBrought, resume}
+use Rattle.tool_text.specs.machine_steps.declared.answers.HotAnswer.{HotAnswer}
+use Rattle.tool_text.specs.machine_steps.Hardware.{Hardware}
+use Rattle.tool_text.specs.machine_steps.Calls as calls
+use Rattle.tool_text.specs.machine_steps.BringUps.{AllBrought, resume}
 use Rattle.script_text.specs.declared.command.Command.{Command}
 use Rattle.script_text.specs.declared.command.Command.TheVariants as command
-use Rattle.session_text.specs.declared.answers.CommandAnswer.{CommandAnswer}
-use Rattle.session_text.specs.declared.answers.CommandAnswer.TheVariants.{Done, Load}
-use Rattle.session_text.specs.declared.answers.LoadAnswer.TheVariants as load
-use Rattle.session_text.specs.declared.answers.SessionAnswer.{SessionAnswer}
-use Rattle.session_text.specs.declared.answers.SessionAnswer.TheVariants as session
-use Rattle.session_steps.specs.State.{Setting, State, machine_of, cached_patches, opening_state}
-use Rattle.session_steps.specs.Offers.{plan_of}
-use Rattle.session_steps.specs.Did.{Did, by_row, by_bring_ups}
-use Rattle.session_steps.specs.Step.{SessionStep, BootRow, LoadRow, Meets, answer_of, met, run_of, online, set_refusal}
-use Rattle.session_steps.specs.Session.{StepsFrom, Steps, ends_session, left_to_run, is_done, all_done, ended_by, or_else, first_end, short_unless, answer_by, session_answer}
+use Rattle.tool_text.specs.session_text.declared.answers.CommandAnswer.{CommandAnswer}
+use Rattle.tool_text.specs.session_text.declared.answers.CommandAnswer.TheVariants.{Done, Load}
+use Rattle.tool_text.specs.session_text.declared.answers.LoadAnswer.TheVariants as load
+use Rattle.tool_text.specs.session_text.declared.answers.SessionAnswer.{SessionAnswer}
+use Rattle.tool_text.specs.session_text.declared.answers.SessionAnswer.TheVariants as session
+use Rattle.tool_text.specs.session_steps.State.{Setting, State, machine_of, cached_patches, opening_state}
+use Rattle.tool_text.specs.session_steps.Offers.{plan_of}
+use Rattle.tool_text.specs.session_steps.Did.{Did, by_row, by_bring_ups}
+use Rattle.tool_text.specs.session_steps.Step.{SessionStep, BootRow, LoadRow, Meets, answer_of, met, run_of, online, set_refusal}
+use Rattle.tool_text.specs.session_steps.Session.{StepsFrom, Steps, ends_session, left_to_run, is_done, all_done, ended_by, or_else, first_end, short_unless, answer_by, session_answer}
 use Rattle.tool_text.specs.Words.{Asked, Faulty, ListOf, ShowOf, SelectOf, PlayOf, GenOf}
 use Rattle.tool_text.specs.Commands.{StopsAt, Listed, Shown, Selected, FailsAt, SelectsFor}
 use Rattle.tool_text.specs.Plays.{setting_of, status_of, StatesMachine, ScriptFailsAt, PlaysScript, PlaysFor}

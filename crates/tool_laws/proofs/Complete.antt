@@ -14,16 +14,16 @@ use Rattle.script_text.specs.Stated.{Stated}
 use Rattle.script_text.specs.Texts.{States}
 use Rattle.script_text.proofs.OneReading.{one_script, never_both as never_both_script}
 use Rattle.script_text.specs.Accepts.{IsScript, RefusesScript}
-use Rattle.session_text.specs.declared.answers.SessionAnswer.{SessionAnswer}
-use Rattle.session_steps.specs.State.{Setting, opening_state}
-use Rattle.session_steps.specs.Did.{Did}
-use Rattle.session_steps.specs.Session.{Steps, all_reads, session_answer}
-use Rattle.file_entries.specs.Reading.{Reading}
-use Rattle.file_reads.specs.Accepts.{IsMachine, RefusesTopology}
-use Rattle.file_reads.specs.Reads.{Read, AreHeld, Outcome, AllRead, NotRead}
-use Rattle.file_reads.proofs.Outcomes.{all_or_not_read, held_head, held_tail}
-use Rattle.top_call.specs.declared.status.Status.{Status}
-use Rattle.top_call.specs.declared.status.Status.TheVariants.{Done, BadInput, ReadFault}
+use Rattle.tool_text.specs.session_text.declared.answers.SessionAnswer.{SessionAnswer}
+use Rattle.tool_text.specs.session_steps.State.{Setting, opening_state}
+use Rattle.tool_text.specs.session_steps.Did.{Did}
+use Rattle.tool_text.specs.session_steps.Session.{Steps, all_reads, session_answer}
+use Rattle.tool_text.specs.entry_model.Reading.{Reading}
+use Rattle.read_model.specs.Accepts.{IsMachine, RefusesTopology}
+use Rattle.read_model.specs.Reads.{Read, AreHeld, Outcome, AllRead, NotRead}
+use Rattle.read_model.proofs.Outcomes.{all_or_not_read, held_head, held_tail}
+use Rattle.status_rule.specs.declared.status.Status.{Status}
+use Rattle.status_rule.specs.declared.status.Status.TheVariants.{Done, BadInput, ReadFault}
 use Rattle.tool_text.specs.Words.{Asked, Faulty, ListOf, ShowOf, SelectOf, PlayOf, GenOf}
 use Rattle.tool_text.specs.Commands.{entries_of_all, StopsAt, Listed, Shown, Selected, FailsAt}
 use Rattle.tool_text.specs.Plays.{limits_of, setting_of, status_of, ScriptFailsAt, PlaysScript, PlaysFor, GenText, bundle}

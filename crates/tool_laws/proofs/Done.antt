@@ -3,25 +3,25 @@ use Rattle.std.proofs.Common.{◌≡◌, ◌≢◌, ℕ, ◌-◌, ◌<◌, Bool,
 use Rattle.std.specs.List.{slice_index}
 use Rattle.std.proofs.lemmas.Bool.{cases_lt, eq-eqb}
 use Rattle.std.proofs.lemmas.List.FromFn.{get_or-map-range_with_len}
-use Rattle.rendezvous_steps.specs.declared.steps.Kind.TheVariants.{Online}
-use Rattle.rendezvous_steps.specs.declared.steps.Phase.{Phase}
-use Rattle.rendezvous_steps.specs.declared.steps.Phase.TheVariants as phase
-use Rattle.rendezvous_steps.specs.declared.ends.End.{End}
-use Rattle.rendezvous_steps.specs.declared.ends.End.TheVariants as ends
-use Rattle.rendezvous_steps.specs.Plan.{Plan, Sound, is_primary}
-use Rattle.rendezvous_steps.specs.Padded.{Padded}
-use Rattle.rendezvous_steps.specs.Words.{families}
-use Rattle.rendezvous_steps.specs.StepTable.{is_last}
-use Rattle.rendezvous_steps.specs.Events.{Running}
-use Rattle.rendezvous_model.specs.Round.{Place, Out, In, Left, Halted, Withdrawn, Absent, Stage, Gathering, Going, DroppedByKick, DroppedBy, State, is_unfinished, is_dropped, nobody}
-use Rattle.rendezvous_model.specs.Outcome.{Outcome, OutcomeShows, end_of, decide_of}
-use Rattle.rendezvous_model.specs.Verdict.{LoadVerdict, Done, end_at, left_with_error}
-use Rattle.rendezvous_model.specs.Verdict as verdict
-use Rattle.rendezvous_rule.specs.Shown.{shown_by}
-use Rattle.rendezvous_rule.specs.View.{views}
-use Rattle.rendezvous_rule.specs.Seen.{seen, place_seen}
-use Rattle.rendezvous_rule.specs.Rule.{RuleBy}
-use Rattle.rendezvous_rule.specs.Ran.{Unlisted, AfterGo, revision_after_go, primary_result}
+use Rattle.tool_text.specs.rendezvous_steps.declared.steps.Kind.TheVariants.{Online}
+use Rattle.tool_text.specs.rendezvous_steps.declared.steps.Phase.{Phase}
+use Rattle.tool_text.specs.rendezvous_steps.declared.steps.Phase.TheVariants as phase
+use Rattle.tool_text.specs.rendezvous_steps.declared.ends.End.{End}
+use Rattle.tool_text.specs.rendezvous_steps.declared.ends.End.TheVariants as ends
+use Rattle.tool_text.specs.rendezvous_steps.Plan.{Plan, Sound, is_primary}
+use Rattle.tool_text.specs.rendezvous_steps.Padded.{Padded}
+use Rattle.tool_text.specs.rendezvous_steps.Words.{families}
+use Rattle.tool_text.specs.rendezvous_steps.StepTable.{is_last}
+use Rattle.tool_text.specs.rendezvous_steps.Events.{Running}
+use Rattle.tool_text.specs.rendezvous_model.Round.{Place, Out, In, Left, Halted, Withdrawn, Absent, Stage, Gathering, Going, DroppedByKick, DroppedBy, State, is_unfinished, is_dropped, nobody}
+use Rattle.tool_text.specs.rendezvous_model.Outcome.{Outcome, OutcomeShows, end_of, decide_of}
+use Rattle.tool_text.specs.rendezvous_model.Verdict.{LoadVerdict, Done, end_at, left_with_error}
+use Rattle.tool_text.specs.rendezvous_model.Verdict as verdict
+use Rattle.tool_text.specs.rendezvous_rule.Shown.{shown_by}
+use Rattle.tool_text.specs.rendezvous_rule.View.{views}
+use Rattle.tool_text.specs.rendezvous_rule.Seen.{seen, place_seen}
+use Rattle.tool_text.specs.rendezvous_rule.Rule.{RuleBy}
+use Rattle.tool_text.specs.rendezvous_rule.Ran.{Unlisted, AfterGo, revision_after_go, primary_result}
 use Rattle.rule_laws.specs.Kept.{Ruled}
 use Rattle.rule_laws.proofs.Assemble.{shown_is_seen}
 use Rattle.rule_laws.proofs.Facts.{none_settled}

@@ -1,23 +1,23 @@
 -- A run that lists its items is the play of its schedule, so what holds of each play holds of it.
 use Rattle.std.proofs.Common.{◌≡◌, ◌⊎◌, ℕ, suc, ◌+◌, ◌<◌, ◌≤◌, true, false, List, [], ◌∷◌, length, Some, slice_get, flat_map, refl, sym, ap, ◌∙◌, subst, inl, inr, arith}
 use Rattle.std.proofs.lemmas.Bool.{cases_Bool}
-use Rattle.rendezvous_steps.specs.declared.items.What.{What}
-use Rattle.rendezvous_steps.specs.declared.items.Event.{Event}
-use Rattle.rendezvous_steps.specs.declared.items.Item.{Item}
-use Rattle.rendezvous_steps.specs.declared.ends.Beat.{Beat}
-use Rattle.rendezvous_steps.specs.Plan.{Plan, Sound}
-use Rattle.rendezvous_steps.specs.Padded.{Padded}
-use Rattle.rendezvous_steps.specs.Events.{Running, happens, opening_running}
-use Rattle.rendezvous_model.specs.Round.{unfinished_count}
-use Rattle.rendezvous_model.specs.RoundStep.{thread_of}
-use Rattle.rendezvous_model.specs.Outcome.{Outcome, OutcomeShows}
-use Rattle.rendezvous_rule.specs.Shown.{shown_by}
-use Rattle.rendezvous_rule.specs.Ran.{Listed, events_of}
-use Rattle.rendezvous_runs.specs.Play.{is_over, play, last_moment}
-use Rattle.rendezvous_runs.proofs.Play.{item_of, play_over, play_next, last_moment_over, last_moment_next, last_moment_is}
+use Rattle.tool_text.specs.rendezvous_steps.declared.items.What.{What}
+use Rattle.tool_text.specs.rendezvous_steps.declared.items.Event.{Event}
+use Rattle.tool_text.specs.rendezvous_steps.declared.items.Item.{Item}
+use Rattle.tool_text.specs.rendezvous_steps.declared.ends.Beat.{Beat}
+use Rattle.tool_text.specs.rendezvous_steps.Plan.{Plan, Sound}
+use Rattle.tool_text.specs.rendezvous_steps.Padded.{Padded}
+use Rattle.tool_text.specs.rendezvous_steps.Events.{Running, happens, opening_running}
+use Rattle.tool_text.specs.rendezvous_model.Round.{unfinished_count}
+use Rattle.tool_text.specs.rendezvous_model.RoundStep.{thread_of}
+use Rattle.tool_text.specs.rendezvous_model.Outcome.{Outcome, OutcomeShows}
+use Rattle.tool_text.specs.rendezvous_rule.Shown.{shown_by}
+use Rattle.tool_text.specs.rendezvous_rule.Ran.{Listed, events_of}
+use Rattle.play_steps.specs.Play.{is_over, play, last_moment}
+use Rattle.play_steps.proofs.Play.{item_of, play_over, play_next, last_moment_over, last_moment_next, last_moment_is}
 use Rattle.play_laws.specs.Runs.{RunsHold, items_of, state_at}
 use Rattle.play_laws.proofs.Over.{over_none, goes_on_some}
-use Rattle.rendezvous_steps.specs.ItemText.{item_line}
+use Rattle.tool_text.specs.rendezvous_steps.ItemText.{item_line}
 use Rattle.tool_text.specs.Headline.{SafeItems}
 
 not_over : (plan : Plan) (m : Running) → 0 < unfinished_count plan (shown_by plan m) → is_over plan m ≡ false

@@ -5,32 +5,32 @@ use Rattle.std.proofs.lemmas.Bool.{cases_lt, eq-eqb}
 use Rattle.std.proofs.lemmas.List.{get_or_default}
 use Rattle.std.proofs.lemmas.List.FromFn.{length-map-range_with_len}
 use Rattle.uc_topology.specs.Stated.{IsPartition}
-use Rattle.file_entries.specs.Entry.{Entry}
-use Rattle.file_entries.specs.Selection.{IsBest}
-use Rattle.rendezvous_steps.specs.declared.ends.Beat.{Beat}
-use Rattle.rendezvous_steps.specs.Plan.{Plan, Sound}
-use Rattle.rendezvous_steps.specs.Padded.{Padded}
-use Rattle.rendezvous_model.specs.Outcome.{Outcome}
-use Rattle.rendezvous_model.specs.Verdict.{Verdict, LoadVerdict}
-use Rattle.rendezvous_model.specs.Verdict as verdict
-use Rattle.rendezvous_rule.specs.Runs.{RunOf}
-use Rattle.rendezvous_steps.specs.ItemText.{item_line}
+use Rattle.tool_text.specs.entry_model.Entry.{Entry}
+use Rattle.tool_text.specs.entry_model.Selection.{IsBest}
+use Rattle.tool_text.specs.rendezvous_steps.declared.ends.Beat.{Beat}
+use Rattle.tool_text.specs.rendezvous_steps.Plan.{Plan, Sound}
+use Rattle.tool_text.specs.rendezvous_steps.Padded.{Padded}
+use Rattle.tool_text.specs.rendezvous_model.Outcome.{Outcome}
+use Rattle.tool_text.specs.rendezvous_model.Verdict.{Verdict, LoadVerdict}
+use Rattle.tool_text.specs.rendezvous_model.Verdict as verdict
+use Rattle.tool_text.specs.rendezvous_rule.Runs.{RunOf}
+use Rattle.tool_text.specs.rendezvous_steps.ItemText.{item_line}
 use Rattle.play_laws.specs.Lawful.{Lawful}
 use Rattle.play_laws.specs.Runs.{RunsHold, MomentsAreLawful}
 use Rattle.play_laws.specs.Outcomes.{EndedLaw}
-use Rattle.rendezvous_steps.specs.Events.{opening_running}
-use Rattle.rendezvous_rule.specs.Ran.{Ran, events_of}
-use Rattle.rendezvous_runs.specs.Play.{last_moment}
-use Rattle.rendezvous_runs.proofs.Play.{last_moment_is}
+use Rattle.tool_text.specs.rendezvous_steps.Events.{opening_running}
+use Rattle.tool_text.specs.rendezvous_rule.Ran.{Ran, events_of}
+use Rattle.play_steps.specs.Play.{last_moment}
+use Rattle.play_steps.proofs.Play.{last_moment_is}
 use Rattle.region_steps.specs.Region.{Patches}
-use Rattle.machine_steps.specs.BringUps.{revision}
-use Rattle.machine_steps.specs.Puts.{Puts, first_of, patch_at, swept}
-use Rattle.session_text.specs.declared.answers.CommandAnswer.{CommandAnswer}
-use Rattle.session_text.specs.declared.answers.CommandAnswer.TheVariants.{Done}
-use Rattle.session_steps.specs.State.{Setting, State, machine_of, cached_patches}
-use Rattle.session_steps.specs.Offers.{entry_at, bytes_at, offer_of, group_of_core, load_offers_text, put_revision, plan_of}
-use Rattle.session_steps.specs.Did.{Did, kept_where, cached_after, revision_after, loaded}
-use Rattle.session_steps.specs.Step.{Boots, Meets, answer_of, booted, brought_at_boot, met, run_of}
+use Rattle.tool_text.specs.machine_steps.BringUps.{revision}
+use Rattle.tool_text.specs.machine_steps.Puts.{Puts, first_of, patch_at, swept}
+use Rattle.tool_text.specs.session_text.declared.answers.CommandAnswer.{CommandAnswer}
+use Rattle.tool_text.specs.session_text.declared.answers.CommandAnswer.TheVariants.{Done}
+use Rattle.tool_text.specs.session_steps.State.{Setting, State, machine_of, cached_patches}
+use Rattle.tool_text.specs.session_steps.Offers.{entry_at, bytes_at, offer_of, group_of_core, load_offers_text, put_revision, plan_of}
+use Rattle.tool_text.specs.session_steps.Did.{Did, kept_where, cached_after, revision_after, loaded}
+use Rattle.tool_text.specs.session_steps.Step.{Boots, Meets, answer_of, booted, brought_at_boot, met, run_of}
 use Rattle.session_laws.specs.Standing.{Standing}
 use Rattle.session_laws.specs.Lent.{IsLent, BootsLend, LoadsLend}
 use Rattle.session_laws.proofs.Parts.{load_offers}

@@ -2,11 +2,11 @@
 use Rattle.std.proofs.Common.{◌≡◌, ℕ, ◌<◌, Bool, false, List, length, Option, Some, sym, subst}
 use Rattle.uc_topology.specs.declared.tables.GroupFacts.{GroupFacts}
 use Rattle.uc_topology.specs.Stated.{Machine, IsPartition, core_at, group_of, group_facts, no_core}
-use Rattle.file_entries.specs.Entry.{Entry}
-use Rattle.file_entries.specs.Selection.{IsOffer, IsBest}
-use Rattle.report_text.specs.Offers.{AreOffers, facts_of_group}
-use Rattle.session_steps.specs.State.{Setting, State}
-use Rattle.session_steps.specs.Offers.{offer_of, AreLoadOffers}
+use Rattle.tool_text.specs.entry_model.Entry.{Entry}
+use Rattle.tool_text.specs.entry_model.Selection.{IsOffer, IsBest}
+use Rattle.tool_text.specs.report_text.Offers.{AreOffers, facts_of_group}
+use Rattle.tool_text.specs.session_steps.State.{Setting, State}
+use Rattle.tool_text.specs.session_steps.Offers.{offer_of, AreLoadOffers}
 use Rattle.session_laws.proofs.Parts.{load_offers}
 use Rattle.tool_text.specs.Headline.{core_facts, first_revision}
 

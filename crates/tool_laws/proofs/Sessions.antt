@@ -3,27 +3,27 @@ use Rattle.std.proofs.Common.{◌≡◌, ◌⊎◌, ℕ, Bool, true, false, List
 use Rattle.std.specs.List.{All}
 use Rattle.std.proofs.lemmas.List.Elements.{All-head, All-tail}
 use Rattle.uc_topology.specs.Stated.{IsPartition}
-use Rattle.file_reads.specs.Reads.{Read}
-use Rattle.rendezvous_steps.specs.declared.ends.Beat.{Beat}
-use Rattle.rendezvous_rule.specs.Runs.{RunOf, RanGrows}
+use Rattle.read_model.specs.Reads.{Read}
+use Rattle.tool_text.specs.rendezvous_steps.declared.ends.Beat.{Beat}
+use Rattle.tool_text.specs.rendezvous_rule.Runs.{RunOf, RanGrows}
 use Rattle.play_laws.specs.Runs.{RunsHold, MomentsAreLawful}
 use Rattle.play_laws.specs.Outcomes.{EndedLaw}
-use Rattle.rendezvous_steps.specs.ItemText.{item_line}
-use Rattle.machine_steps.specs.declared.answers.HotAnswer.{HotAnswer}
-use Rattle.machine_steps.specs.declared.answers.HotAnswer.TheVariants as hot
-use Rattle.machine_steps.specs.Hardware.{Hardware}
-use Rattle.machine_steps.specs.Calls as calls
-use Rattle.machine_steps.specs.BringUps.{AllBrought, resume}
-use Rattle.machine_steps.specs.Puts.{Puts}
+use Rattle.tool_text.specs.rendezvous_steps.ItemText.{item_line}
+use Rattle.tool_text.specs.machine_steps.declared.answers.HotAnswer.{HotAnswer}
+use Rattle.tool_text.specs.machine_steps.declared.answers.HotAnswer.TheVariants as hot
+use Rattle.tool_text.specs.machine_steps.Hardware.{Hardware}
+use Rattle.tool_text.specs.machine_steps.Calls as calls
+use Rattle.tool_text.specs.machine_steps.BringUps.{AllBrought, resume}
+use Rattle.tool_text.specs.machine_steps.Puts.{Puts}
 use Rattle.script_text.specs.declared.command.Command.{Command}
 use Rattle.script_text.specs.declared.command.Command.TheVariants as command
-use Rattle.session_text.specs.declared.answers.CommandAnswer.{CommandAnswer}
-use Rattle.session_text.specs.declared.answers.CommandAnswer.TheVariants.{Done, Hot, Load}
-use Rattle.session_text.specs.declared.answers.LoadAnswer.TheVariants as load
-use Rattle.session_steps.specs.State.{Setting, State, machine_of, cached_patches, opening_state}
-use Rattle.session_steps.specs.Did.{Did, only, by_row, by_bring_ups}
-use Rattle.session_steps.specs.Step.{SessionStep, BootRow, LoadRow, Meets, booted, brought_at_boot, met, online, set_refusal}
-use Rattle.session_steps.specs.Session.{StepsFrom, Steps, ends_session, left_to_run}
+use Rattle.tool_text.specs.session_text.declared.answers.CommandAnswer.{CommandAnswer}
+use Rattle.tool_text.specs.session_text.declared.answers.CommandAnswer.TheVariants.{Done, Hot, Load}
+use Rattle.tool_text.specs.session_text.declared.answers.LoadAnswer.TheVariants as load
+use Rattle.tool_text.specs.session_steps.State.{Setting, State, machine_of, cached_patches, opening_state}
+use Rattle.tool_text.specs.session_steps.Did.{Did, only, by_row, by_bring_ups}
+use Rattle.tool_text.specs.session_steps.Step.{SessionStep, BootRow, LoadRow, Meets, booted, brought_at_boot, met, online, set_refusal}
+use Rattle.tool_text.specs.session_steps.Session.{StepsFrom, Steps, ends_session, left_to_run}
 use Rattle.session_laws.specs.Laws as session
 use Rattle.session_laws.specs.Lent.{BootsLend, LoadsLend}
 use Rattle.session_laws.specs.Standing.{Standing, InRange, OpeningStands, StepsStand}

@@ -13,13 +13,13 @@ use Rattle.uc_topology.proofs.Laws.{one_each as one_each_topology}
 use Rattle.uc_topology.proofs.Partition.{partition}
 use Rattle.uc_gen.specs.Texts.{topology_text, script_text}
 use Rattle.gen_laws.specs.Stated as generated
-use Rattle.file_reads.specs.declared.TheConstants.{TOPOLOGY_LIMIT}
-use Rattle.file_reads.specs.Accepts.{IsMachine, RefusesTopology}
-use Rattle.file_reads.specs.Reads.{Read, AreHeld}
-use Rattle.file_reads.proofs.Outcomes.{held_nil, held_one, held_cons}
-use Rattle.report_text.specs.Lines.{topology_line}
+use Rattle.read_model.specs.declared.TheConstants.{TOPOLOGY_LIMIT}
+use Rattle.read_model.specs.Accepts.{IsMachine, RefusesTopology}
+use Rattle.read_model.specs.Reads.{Read, AreHeld}
+use Rattle.read_model.proofs.Outcomes.{held_nil, held_one, held_cons}
+use Rattle.tool_text.specs.report_text.Lines.{topology_line}
 use Rattle.play_laws.proofs.Exist.{always_runs}
-use Rattle.rendezvous_steps.specs.ItemText.{item_line}
+use Rattle.tool_text.specs.rendezvous_steps.ItemText.{item_line}
 use Rattle.script_text.specs.declared.command.Command.{Command}
 use Rattle.script_text.specs.declared.command.Command.TheVariants as command
 use Rattle.script_text.specs.declared.fault.ScriptCause.{ScriptCause}
@@ -33,17 +33,17 @@ use Rattle.script_text.proofs.Kept.{within}
 use Rattle.script_text.specs.declared.TheConstants.{SCRIPT_LIMIT}
 use Rattle.script_text.specs.Accepts.{IsScript, RefusesScript}
 use Rattle.script_text.specs.Lines.{script_line}
-use Rattle.session_text.specs.declared.answers.SessionAnswer.{SessionAnswer}
-use Rattle.session_text.specs.declared.answers.SessionAnswer.TheVariants as session
-use Rattle.session_steps.specs.State.{opening_state}
-use Rattle.session_steps.specs.Session.{texts_from, all_reads, session_answer}
-use Rattle.session_steps.specs.Whole.{is_unread}
+use Rattle.tool_text.specs.session_text.declared.answers.SessionAnswer.{SessionAnswer}
+use Rattle.tool_text.specs.session_text.declared.answers.SessionAnswer.TheVariants as session
+use Rattle.tool_text.specs.session_steps.State.{opening_state}
+use Rattle.tool_text.specs.session_steps.Session.{texts_from, all_reads, session_answer}
+use Rattle.tool_text.specs.session_steps.Whole.{is_unread}
 use Rattle.session_laws.specs.Standing.{InRange}
 use Rattle.session_laws.proofs.Stands.{opening_stands}
 use Rattle.command_laws.specs.Steps.{SessionsExist}
-use Rattle.top_call.specs.Written.{HasText, GoesWith}
-use Rattle.top_call.specs.declared.status.Status.{Status}
-use Rattle.top_call.specs.declared.status.Status.TheVariants.{BadInput}
+use Rattle.status_rule.specs.Written.{HasText, GoesWith}
+use Rattle.status_rule.specs.declared.status.Status.{Status}
+use Rattle.status_rule.specs.declared.status.Status.TheVariants.{BadInput}
 use Rattle.tool_text.specs.Plays.{limits_of, setting_of, status_of, unread_after, Plays, PlayText, GenText, bundle, summary_line}
 use Rattle.tool_text.specs.Tool.{FromReads}
 

@@ -10,20 +10,20 @@ use Rattle.uc_topology.specs.declared.fault.TopoCause.{TopoCause}
 use Rattle.uc_topology.specs.declared.fault.TopoCause.TheVariants as topo
 use Rattle.uc_topology.specs.Stated.{Machine, group_count}
 use Rattle.uc_topology.proofs.Laws.{one_each}
-use Rattle.file_entries.specs.Reading.{Reading}
-use Rattle.file_entries.specs.Entry.{Entry, patch_entry}
+use Rattle.tool_text.specs.entry_model.Reading.{Reading}
+use Rattle.tool_text.specs.entry_model.Entry.{Entry, patch_entry}
 use Rattle.entry_laws.proofs.Offers.{some_offer}
-use Rattle.file_reads.specs.declared.TheConstants.{TOPOLOGY_LIMIT}
-use Rattle.file_reads.specs.Accepts.{IsMachine, RefusesTopology}
-use Rattle.file_reads.specs.Reads.{Read, AreHeld, Outcome, AllRead, NotRead, Refused, Reads, count_of}
-use Rattle.file_reads.proofs.Outcomes.{some_outcome, held_nil, held_one, held_cons}
-use Rattle.report_text.specs.Lines.{usage_line, fault_line, topology_line, no_entry_line, day_text, IsDateText}
-use Rattle.report_text.specs.Listing.{AreDateTexts, files_text}
-use Rattle.report_text.specs.Show.{show_text}
-use Rattle.report_text.specs.Offers.{facts_of_group, AreOffers, offers_text}
-use Rattle.top_call.specs.Written.{HasText}
-use Rattle.top_call.specs.declared.status.Status.{Status}
-use Rattle.top_call.specs.declared.status.Status.TheVariants.{Done, Usage, BadInput}
+use Rattle.read_model.specs.declared.TheConstants.{TOPOLOGY_LIMIT}
+use Rattle.read_model.specs.Accepts.{IsMachine, RefusesTopology}
+use Rattle.read_model.specs.Reads.{Read, AreHeld, Outcome, AllRead, NotRead, Refused, Reads, count_of}
+use Rattle.read_model.proofs.Outcomes.{some_outcome, held_nil, held_one, held_cons}
+use Rattle.tool_text.specs.report_text.Lines.{usage_line, fault_line, topology_line, no_entry_line, day_text, IsDateText}
+use Rattle.tool_text.specs.report_text.Listing.{AreDateTexts, files_text}
+use Rattle.tool_text.specs.report_text.Show.{show_text}
+use Rattle.tool_text.specs.report_text.Offers.{facts_of_group, AreOffers, offers_text}
+use Rattle.status_rule.specs.Written.{HasText}
+use Rattle.status_rule.specs.declared.status.Status.{Status}
+use Rattle.status_rule.specs.declared.status.Status.TheVariants.{Done, Usage, BadInput}
 use Rattle.tool_text.specs.Words.{Asked, Faulty, ListOf, ShowOf, SelectOf, PlayOf, GenOf, asked}
 use Rattle.tool_text.specs.Commands.{entries_of_all, facts_at, ListText, ShowText, SelectText}
 use Rattle.tool_text.specs.Plays.{PlayText, GenText}

@@ -1,9 +1,9 @@
 -- What holds of every text of `ucode`.
 use Rattle.std.specs.Prelude.{◌≡◌, ◌⊎◌, ℕ, List, Option}
-use Rattle.top_call.specs.declared.status.Status.{Status}
-use Rattle.top_call.specs.declared.status.Status.TheVariants.{Done, ReadFault}
-use Rattle.top_call.specs.Written.{HasText}
-use Rattle.file_reads.specs.Reads.{Read, AreHeld}
+use Rattle.status_rule.specs.declared.status.Status.{Status}
+use Rattle.status_rule.specs.declared.status.Status.TheVariants.{Done, ReadFault}
+use Rattle.status_rule.specs.Written.{HasText}
+use Rattle.read_model.specs.Reads.{Read, AreHeld}
 use Rattle.tool_text.specs.Words.{Asked}
 use Rattle.tool_text.specs.Plays.{PlayText, GenText}
 use Rattle.tool_text.specs.Tool.{AskedText, ToolText, FromReads, CanBeDone}

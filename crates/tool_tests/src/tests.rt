@@ -1,6 +1,6 @@
+use status_rule::Status;
 use std::alloc::{AllocError, Global};
 use std::test::Fail;
-use top_call::Status;
 use uc_bytes::Text;
 use uc_io::{MemFiles, MemSink};
 use update_samples::{ONE_THREAD, SMALL, TWO_THREADS, push_update};

@@ -2,9 +2,9 @@
 -- before it leave.
 use Rattle.std.specs.Prelude.{◌≡◌, ℕ, ◌+◌, ◌*◌, ◌==◌, ◌≤◌, Bool, true, false}
 use Rattle.std.specs.Prelude.{List, [], ◌∷◌, map, All, Option, Some, None}
-use Rattle.file_entries.specs.Reading.{Reading}
-use Rattle.file_reads.specs.Accepts.{AreAccepted}
-use Rattle.file_reads.specs.Reads.{AreHeld}
+use Rattle.entry_model.specs.Reading.{Reading}
+use Rattle.read_model.specs.Accepts.{AreAccepted}
+use Rattle.read_model.specs.Reads.{AreHeld}
 use Rattle.report_text.specs.Offers.{AreOffers}
 use Rattle.rendezvous_steps.specs.declared.ends.Beat.{Beat}
 use Rattle.play_laws.specs.Stuck.{rounds_in}

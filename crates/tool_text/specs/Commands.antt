@@ -3,13 +3,13 @@
 use Rattle.std.specs.Prelude.{◌≡◌, ◌⊎◌, ℕ, ◌≤◌, List, [], ◌∷◌, length, Option, Some, None, slice_get, slice_index_or}
 use Rattle.uc_topology.specs.declared.fault.TopoCause.{TopoCause}
 use Rattle.uc_topology.specs.Stated.{Machine}
-use Rattle.top_call.specs.declared.status.Status.{Status}
-use Rattle.top_call.specs.declared.status.Status.TheVariants.{Done, BadInput, ReadFault}
-use Rattle.file_entries.specs.declared.facts.EntryFacts.{EntryFacts}
-use Rattle.file_entries.specs.Reading.{Reading}
-use Rattle.file_entries.specs.Entry.{Entry, entries_from, patch_entry}
-use Rattle.file_reads.specs.Accepts.{IsMachine, RefusesTopology}
-use Rattle.file_reads.specs.Reads.{Read, Outcome, AllRead, NotRead, Refused, Reads, count_of}
+use Rattle.status_rule.specs.declared.status.Status.{Status}
+use Rattle.status_rule.specs.declared.status.Status.TheVariants.{Done, BadInput, ReadFault}
+use Rattle.entry_model.specs.declared.facts.EntryFacts.{EntryFacts}
+use Rattle.entry_model.specs.Reading.{Reading}
+use Rattle.entry_model.specs.Entry.{Entry, entries_from, patch_entry}
+use Rattle.read_model.specs.Accepts.{IsMachine, RefusesTopology}
+use Rattle.read_model.specs.Reads.{Read, Outcome, AllRead, NotRead, Refused, Reads, count_of}
 use Rattle.report_text.specs.Lines.{unread_line, fault_line, topology_line, no_entry_line}
 use Rattle.report_text.specs.Listing.{AreDateTexts, files_text}
 use Rattle.report_text.specs.Show.{show_text}

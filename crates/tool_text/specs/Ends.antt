@@ -1,9 +1,9 @@
 -- Why a session ends short, or with a thread that halted.
 use Rattle.std.specs.Prelude.{◌≡◌, ◌≢◌, ◌↔◌, ℕ, List, Option, Some, slice_get}
 use Rattle.uc_topology.specs.Stated.{Machine}
-use Rattle.top_call.specs.declared.status.Status.{Status}
-use Rattle.top_call.specs.declared.status.Status.TheVariants.{Short, Panicked}
-use Rattle.file_reads.specs.Reads.{Read}
+use Rattle.status_rule.specs.declared.status.Status.{Status}
+use Rattle.status_rule.specs.declared.status.Status.TheVariants.{Short, Panicked}
+use Rattle.read_model.specs.Reads.{Read}
 use Rattle.rendezvous_model.specs.Verdict.{IsLowest, halted_at}
 use Rattle.rendezvous_rule.specs.Runs.{RunOf}
 use Rattle.session_text.specs.declared.answers.CommandAnswer.{CommandAnswer}

@@ -10,12 +10,12 @@
 use Rattle.std.specs.Prelude.{◌≡◌, ◌≢◌, ℕ, ◌<◌, ◌≤◌, Bool, true, false, Option, Some, None, option_map}
 use Rattle.std.specs.Prelude.{List, [], ◌∷◌, ◌++◌, length, take, flat_map}
 use Rattle.uc_topology.specs.Stated.{Machine, core_at, group_of}
-use Rattle.top_call.specs.declared.status.Status.{Status}
-use Rattle.file_entries.specs.declared.facts.CoreFacts.{CoreFacts}
-use Rattle.file_entries.specs.Reading.{Reading}
-use Rattle.file_entries.specs.Selection.{IsBest}
-use Rattle.file_reads.specs.Accepts.{AreAccepted}
-use Rattle.file_reads.specs.Reads.{Read, files_of}
+use Rattle.status_rule.specs.declared.status.Status.{Status}
+use Rattle.entry_model.specs.declared.facts.CoreFacts.{CoreFacts}
+use Rattle.entry_model.specs.Reading.{Reading}
+use Rattle.entry_model.specs.Selection.{IsBest}
+use Rattle.read_model.specs.Accepts.{AreAccepted}
+use Rattle.read_model.specs.Reads.{Read, files_of}
 use Rattle.rendezvous_steps.specs.declared.items.Item.{Item}
 use Rattle.rendezvous_steps.specs.declared.ends.Beat.{Beat}
 use Rattle.rendezvous_steps.specs.Plan.{Plan}

@@ -7,11 +7,11 @@ use Rattle.uc_topology.specs.Texts as topology
 use Rattle.uc_gen.specs.Bundle.{intel_file}
 use Rattle.uc_gen.specs.Tally.{last_line}
 use Rattle.uc_gen.specs.Texts as generated
-use Rattle.top_call.specs.declared.status.Status.{Status}
-use Rattle.top_call.specs.declared.status.Status.TheVariants as statuses
-use Rattle.top_call.specs.declared.status.Status.TheVariants.{BadInput, ReadFault}
-use Rattle.file_reads.specs.Accepts.{IsMachine}
-use Rattle.file_reads.specs.Reads.{Read, AreHeld}
+use Rattle.status_rule.specs.declared.status.Status.{Status}
+use Rattle.status_rule.specs.declared.status.Status.TheVariants as statuses
+use Rattle.status_rule.specs.declared.status.Status.TheVariants.{BadInput, ReadFault}
+use Rattle.read_model.specs.Accepts.{IsMachine}
+use Rattle.read_model.specs.Reads.{Read, AreHeld}
 use Rattle.report_text.specs.Lines.{joined, unread_line}
 use Rattle.script_text.specs.Accepts.{IsScript, RefusesScript}
 use Rattle.script_text.specs.Lines.{script_line}

@@ -1,13 +1,13 @@
 -- What the program writes, and when it comes to its end.
 use Rattle.std.specs.Prelude.{◌≡◌, ◌⊎◌, ℕ, ◌<◌, List, [], ◌∷◌, length, map, Option, None}
-use Rattle.top_call.specs.declared.status.Status.{Status}
-use Rattle.top_call.specs.declared.status.Status.TheVariants.{Usage, WriteFault}
+use Rattle.status_rule.specs.declared.status.Status.{Status}
+use Rattle.status_rule.specs.declared.status.Status.TheVariants.{Usage, WriteFault}
 use Rattle.uc_topology.specs.Stated.{Machine}
 use Rattle.uc_topology.specs.Texts as topology
 use Rattle.uc_gen.specs.Texts as generated
-use Rattle.file_entries.specs.Reading.{Reading}
-use Rattle.file_reads.specs.Accepts.{AreAccepted, IsMachine}
-use Rattle.file_reads.specs.Reads.{Read, AreHeld}
+use Rattle.entry_model.specs.Reading.{Reading}
+use Rattle.read_model.specs.Accepts.{AreAccepted, IsMachine}
+use Rattle.read_model.specs.Reads.{Read, AreHeld}
 use Rattle.report_text.specs.Lines.{usage_line}
 use Rattle.script_text.specs.Accepts.{IsScript}
 use Rattle.script_text.specs.Stated.{Stated}

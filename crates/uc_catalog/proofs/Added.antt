@@ -6,8 +6,8 @@ use Rattle.std.proofs.lemmas.List.Elements.{All-nil, All-cons, All-append}
 use Rattle.uc_bytes.specs.declared.causes.Vendor.TheVariants.{Intel, Amd}
 use Rattle.intel_format.specs.File.{FileUpdate, IntelFile}
 use Rattle.amd_format.specs.File.{FileContainer, AmdFile, patches_in}
-use Rattle.file_entries.specs.Reading.{Reading, OfIntel, OfAmd, IsReading}
-use Rattle.file_entries.specs.Entry.{Entry, entries_of}
+use Rattle.entry_model.specs.Reading.{Reading, OfIntel, OfAmd, IsReading}
+use Rattle.entry_model.specs.Entry.{Entry, entries_of}
 use Rattle.file_rows.specs.declared.rows.FileRows.{FileRows}
 use Rattle.file_rows.specs.declared.rows.FileRows.TheVariants.{Updates, Patches}
 use Rattle.uc_catalog.specs.declared.coming.Coming.{Coming}

@@ -5,9 +5,9 @@ use Rattle.std.specs.Option.{option_map}
 use Rattle.std.proofs.lemmas.Option.{slice_get-map}
 use Rattle.uc_bytes.specs.declared.causes.Vendor.{Vendor}
 use Rattle.uc_bytes.specs.declared.causes.Vendor.TheVariants.{Intel, Amd}
-use Rattle.file_entries.specs.declared.facts.CoreFacts.{CoreFacts}
-use Rattle.file_entries.specs.Entry.{Entry, patch_entry}
-use Rattle.file_entries.specs.Selection.{IsServed, FitsOf, IsSafe, Admissible, IsBest, IsOffer}
+use Rattle.entry_model.specs.declared.facts.CoreFacts.{CoreFacts}
+use Rattle.entry_model.specs.Entry.{Entry, patch_entry}
+use Rattle.entry_model.specs.Selection.{IsServed, FitsOf, IsSafe, Admissible, IsBest, IsOffer}
 use Rattle.uc_catalog.specs.Contents.{kept}
 
 -- where bytes are kept, all is

@@ -5,7 +5,7 @@ use Rattle.std.proofs.Math.Seq.{drop-cons}
 use Rattle.std.proofs.lemmas.List.{length-map}
 use Rattle.std.proofs.lemmas.List.Sums.{sum_by-cons}
 use Rattle.std.proofs.lemmas.List.Elements.{All-head, All-tail}
-use Rattle.file_entries.specs.Entry.{Entry}
+use Rattle.entry_model.specs.Entry.{Entry}
 use Rattle.file_rows.specs.declared.rows.FileRows.{FileRows}
 use Rattle.file_rows.specs.declared.rows.FileRows.TheVariants.{Updates, Patches}
 use Rattle.uc_catalog.specs.declared.coming.Coming.{Coming}

@@ -2,7 +2,7 @@
 use Rattle.std.proofs.Common.{◌≡◌, ℕ, ◌+◌, ◌<◌, ◌≤◌, Bool, None, List, [], length, get_or, map, sym, ◌∙◌, ap, subst}
 use Rattle.std.specs.Prelude.{IsTrue}
 use Rattle.std.proofs.lemmas.List.{get_or-map}
-use Rattle.file_entries.specs.Entry.{Entry, patch_entry}
+use Rattle.entry_model.specs.Entry.{Entry, patch_entry}
 use Rattle.file_rows.specs.declared.rows.FileRows.{FileRows}
 use Rattle.file_rows.specs.declared.rows.FileRows.TheVariants.{Updates, Patches}
 use Rattle.uc_catalog.specs.declared.file.KeptFile.{KeptFile}

@@ -3,7 +3,7 @@ use Rattle.std.specs.Prelude.{◌≡◌, ℕ, Bool, List, [], ◌++◌, Option, 
 use Rattle.uc_bytes.specs.declared.causes.FileFault.{FileFault}
 use Rattle.uc_bytes.specs.declared.causes.FileAnswer.{FileAnswer}
 use Rattle.uc_bytes.specs.declared.causes.FileAnswer.TheVariants.{Fault, NoMemory}
-use Rattle.file_entries.specs.Reading.{HasFault}
+use Rattle.entry_model.specs.Reading.{HasFault}
 use Rattle.file_rows.specs.Kept.{kept_bytes}
 use Rattle.file_rows.specs.FileReading.{Reads, IsSettled, IsUnsettled, fed_of}
 use Rattle.file_rows.specs.FileRows.{HasFewPairs, IsFinished}

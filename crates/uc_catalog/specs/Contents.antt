@@ -5,8 +5,8 @@ use Rattle.uc_bytes.specs.declared.causes.Vendor.TheVariants.{Intel, Amd}
 use Rattle.uc_bytes.specs.declared.causes.FileAnswer.{FileAnswer}
 use Rattle.uc_bytes.specs.declared.causes.FileAnswer.TheVariants.{Fault, NoMemory}
 use Rattle.amd_format.specs.File.{patches_in}
-use Rattle.file_entries.specs.Reading.{Reading, OfIntel, OfAmd, IsReading, HasFault}
-use Rattle.file_entries.specs.Entry.{Entry, patch_entry, entries_of, entries_from}
+use Rattle.entry_model.specs.Reading.{Reading, OfIntel, OfAmd, IsReading, HasFault}
+use Rattle.entry_model.specs.Entry.{Entry, patch_entry, entries_of, entries_from}
 pub use Rattle.file_rows.specs.Kept.{kept, kept_bytes}
 use Rattle.file_rows.specs.FileReading.{IsSettled, IsUnsettled}
 use Rattle.uc_catalog.specs.declared.coming.Coming.{Coming}

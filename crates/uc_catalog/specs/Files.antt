@@ -2,8 +2,8 @@
 use Rattle.std.specs.Prelude.{◌≡◌, ℕ, ◌+◌, ◌^◌, ◌<◌, ◌≤◌, Bool, List, [], ◌∷◌, ◌++◌, length, map, slice_index_or, All, Option, Some, None, Result, Ok, Err}
 use Rattle.uc_bytes.specs.declared.causes.FileAnswer.{FileAnswer}
 use Rattle.uc_bytes.specs.declared.causes.FileAnswer.TheVariants.{Fault, NoMemory}
-use Rattle.file_entries.specs.Reading.{Reading, IsReading, HasFault}
-use Rattle.file_entries.specs.Entry.{Entry}
+use Rattle.entry_model.specs.Reading.{Reading, IsReading, HasFault}
+use Rattle.entry_model.specs.Entry.{Entry}
 use Rattle.file_rows.specs.UpdateRows.{facts_of_update}
 use Rattle.file_rows.specs.PatchRows.{facts_of_patch}
 use Rattle.file_rows.specs.FileRows.{vendor_of, count_of, entries_of_rows, StandRows, AreRowsOf, HasFewPairs}

@@ -5,7 +5,7 @@ use crate::coming::Coming;
 use crate::file::{KeptFile, keep_rows};
 use crate::found::Found;
 use crate::place::place_of;
-use file_entries::EntryFacts;
+use entry_model::EntryFacts;
 use file_rows::FileRows;
 use std::alloc::Global;
 use std::marker::Model;
@@ -36,7 +36,7 @@ impl Model for Catalog {
 impl Catalog {
     ghost use Rattle.std.specs.Prelude.{true, false};
     ghost use Rattle.amd_format.specs.Equiv.{id_of};
-    ghost use Rattle.file_entries.specs.Entry.{served};
+    ghost use Rattle.entry_model.specs.Entry.{served};
     ghost use Rattle.uc_catalog.specs.Contents.{no_files, with_coming, IsCounted, IsAdded, IsEnded, IsFed, Comes, fed_of, file_at, entry_at};
     ghost use Rattle.uc_catalog.specs.Files.{IsFound};
 

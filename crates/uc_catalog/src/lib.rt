@@ -2,7 +2,7 @@
 //! none.
 //!
 //! A contract sees each file's vendor and number of entries, the list of all entries (`Contents`), and the file that is
-//! being read. What the entries of files are stands in `file_entries`. The catalogue keeps the rows of `file_rows`: facts
+//! being read. What the entries of files are stands in `entry_model`. The catalogue keeps the rows of `file_rows`: facts
 //! of each entry, the pairs of all updates' tables, and of the table of a container that has a patch an index of its
 //! rows, which is made once, so that no call passes over a table: a table may have millions of rows. A file is added
 //! whole, or in pieces by `Catalog::feed` and `Catalog::end_file`; nothing but these takes memory.
@@ -15,4 +15,4 @@ mod found;
 mod place;
 
 pub use catalog::Catalog;
-pub use file_entries::EntryFacts;
+pub use entry_model::EntryFacts;

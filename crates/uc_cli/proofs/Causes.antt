@@ -1,14 +1,14 @@
 -- Why a run ended, by the count of the sink's faults.
 use Rattle.std.proofs.Common.{◌≡◌, ℕ, List, sym, ap, ◌∙◌, subst}
 use Rattle.uc_io.specs.Faults.{Rose}
-use Rattle.session_text.specs.declared.answers.SessionAnswer.{SessionAnswer}
-use Rattle.session_text.specs.declared.answers.SessionAnswer.TheVariants as session
-use Rattle.session_steps.specs.Whole.{SinkCauseAt}
-use Rattle.top_call.specs.declared.status.Status.{Status}
-use Rattle.top_call.specs.declared.status.Status.TheVariants as statuses
-use Rattle.top_call.specs.Causes.{WriteCause}
-use Rattle.top_call.specs.Written.{memory_line}
-use Rattle.top_call.proofs.Endings.{still_cause, ended_cause}
+use Rattle.tool_text.specs.session_text.declared.answers.SessionAnswer.{SessionAnswer}
+use Rattle.tool_text.specs.session_text.declared.answers.SessionAnswer.TheVariants as session
+use Rattle.tool_text.specs.session_steps.Whole.{SinkCauseAt}
+use Rattle.status_rule.specs.declared.status.Status.{Status}
+use Rattle.status_rule.specs.declared.status.Status.TheVariants as statuses
+use Rattle.status_rule.specs.Causes.{WriteCause}
+use Rattle.status_rule.specs.Written.{memory_line}
+use Rattle.status_rule.proofs.Endings.{still_cause, ended_cause}
 use Rattle.uc_cli.specs.Playing.{IsEnded}
 
 module _ {D : Type 0} (stands : D → List ℕ → Type 0) (faults : D → ℕ) (old mid new : D) (status : Status) where

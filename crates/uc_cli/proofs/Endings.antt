@@ -3,15 +3,15 @@ use Rattle.std.proofs.Common.{◌≡◌, ◌⊎◌, inl, inr, ℕ, List, [], ◌
 use Rattle.std.proofs.lemmas.Bool.{false≢true}
 use Rattle.uc_bytes.specs.declared.causes.FileCause.{FileCause}
 use Rattle.uc_io.specs.Faults.{Rose}
-use Rattle.top_call.specs.declared.status.Status.{Status}
-use Rattle.top_call.specs.declared.status.Status.TheVariants as statuses
-use Rattle.top_call.specs.Status.{code_of}
-use Rattle.top_call.specs.Causes.{ReadCause, WriteCause}
-use Rattle.top_call.specs.Written.{Written, Ends, HasText}
-use Rattle.top_call.proofs.Endings.{Written-ends, Written-memory, StartsText-nothing}
-use Rattle.report_text.specs.Lines.{unread_line, fault_line, topology_line}
-use Rattle.file_reads.specs.Reads.{Read, NotRead, Refused, ReadsOf}
-use Rattle.file_reads.proofs.Outcomes.{held_nil, held_one}
+use Rattle.status_rule.specs.declared.status.Status.{Status}
+use Rattle.status_rule.specs.declared.status.Status.TheVariants as statuses
+use Rattle.status_rule.specs.Status.{code_of}
+use Rattle.status_rule.specs.Causes.{ReadCause, WriteCause}
+use Rattle.status_rule.specs.Written.{Written, Ends, HasText}
+use Rattle.status_rule.proofs.Endings.{Written-ends, Written-memory, StartsText-nothing}
+use Rattle.tool_text.specs.report_text.Lines.{unread_line, fault_line, topology_line}
+use Rattle.tool_text.specs.read_model.Reads.{Read, NotRead, Refused, ReadsOf}
+use Rattle.tool_text.proofs.read_model.Outcomes.{held_nil, held_one}
 use Rattle.tool_text.specs.Words.{Asked}
 use Rattle.tool_text.specs.Commands.{FailsAt}
 use Rattle.tool_text.specs.Tool.{AskedText, FromReads, CanBeDone}

@@ -13,18 +13,18 @@ use Rattle.uc_gen.specs.Bundle.{intel_file}
 use Rattle.uc_gen.specs.Tally.{Tallies}
 use Rattle.uc_gen.specs.Texts.{topology_text, script_text}
 use Rattle.gen_laws.specs.Stated.{machine_of, script_of, limits_of as generated_limits}
-use Rattle.file_reads.specs.Reads.{AreHeld}
-use Rattle.rendezvous_rule.specs.Runs.{RunOf}
-use Rattle.script_text.specs.Stated.{Stated}
-use Rattle.script_text.specs.Texts.{States}
-use Rattle.script_text.specs.Within.{IsWithin}
-use Rattle.script_text.proofs.Kept.{within}
-use Rattle.session_text.specs.declared.answers.SessionAnswer.{SessionAnswer}
-use Rattle.session_text.specs.declared.answers.SessionAnswer.TheVariants as session
-use Rattle.session_steps.specs.Session.{texts_from, all_reads}
-use Rattle.session_steps.specs.Calls.{Outside, HeldWhere, Surroundings}
-use Rattle.session_steps.specs.Whole.{PlaysWhole, IsPlayedThrough}
-use Rattle.command_laws.specs.Steps.{SessionsExist}
+use Rattle.tool_text.specs.read_model.Reads.{AreHeld}
+use Rattle.tool_text.specs.rendezvous_rule.Runs.{RunOf}
+use Rattle.tool_text.specs.script_text.Stated.{Stated}
+use Rattle.tool_text.specs.script_text.Texts.{States}
+use Rattle.tool_text.specs.script_text.Within.{IsWithin}
+use Rattle.tool_text.proofs.script_text.Kept.{within}
+use Rattle.tool_text.specs.session_text.declared.answers.SessionAnswer.{SessionAnswer}
+use Rattle.tool_text.specs.session_text.declared.answers.SessionAnswer.TheVariants as session
+use Rattle.tool_text.specs.session_steps.Session.{texts_from, all_reads}
+use Rattle.tool_text.specs.session_steps.Calls.{Outside, HeldWhere, Surroundings}
+use Rattle.tool_text.specs.session_steps.Whole.{PlaysWhole, IsPlayedThrough}
+use Rattle.tool_text.specs.command_laws.Steps.{SessionsExist}
 use Rattle.tool_text.specs.Plays.{limits_of, setting_of, bundle, IsGenerated}
 use Rattle.tool_laws.proofs.SomePlay.{limits_are}
 use Rattle.uc_cli.specs.Generating.{WasPlayed}

@@ -4,13 +4,13 @@ use Rattle.std.specs.Prelude.{codes, decimal, min, count_by}
 use Rattle.uc_text.specs.Lines.{is_line_feed}
 use Rattle.uc_gen.specs.declared.tally.TallySink.{TallySink}
 use Rattle.uc_gen.specs.Tally.{last_of, Tallies}
-use Rattle.file_reads.specs.Reads.{Read}
-use Rattle.file_reads.proofs.Outcomes.{held_nil}
-use Rattle.report_text.specs.Lines.{joined}
-use Rattle.top_call.specs.declared.status.Status.{Status}
-use Rattle.top_call.specs.declared.status.Status.TheVariants as statuses
-use Rattle.top_call.specs.Causes.{ReadCause}
-use Rattle.top_call.specs.Written.{GoesWith, HasText, WroteText, StartsText, Written}
+use Rattle.tool_text.specs.read_model.Reads.{Read}
+use Rattle.tool_text.proofs.read_model.Outcomes.{held_nil}
+use Rattle.tool_text.specs.report_text.Lines.{joined}
+use Rattle.status_rule.specs.declared.status.Status.{Status}
+use Rattle.status_rule.specs.declared.status.Status.TheVariants as statuses
+use Rattle.status_rule.specs.Causes.{ReadCause}
+use Rattle.status_rule.specs.Written.{GoesWith, HasText, WroteText, StartsText, Written}
 use Rattle.tool_text.specs.Plays.{GenText, summary_line}
 use Rattle.tool_text.specs.Tool.{FromReads}
 use Rattle.uc_cli.specs.Generating.{summary_of}

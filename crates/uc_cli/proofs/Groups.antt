@@ -4,12 +4,12 @@ use Rattle.std.specs.Prelude.{Bool, Result, false, slice_index_or, IfSome}
 use Rattle.std.specs.List.{range_with_len}
 use Rattle.std.proofs.lemmas.Option.{slice_get_within}
 use Rattle.uc_topology.specs.Stated.{Machine, group_count}
-use Rattle.file_entries.specs.declared.facts.CoreFacts.{CoreFacts}
+use Rattle.tool_text.specs.entry_model.declared.facts.CoreFacts.{CoreFacts}
 use Rattle.uc_io.specs.Writing.{Writes}
-use Rattle.file_entries.specs.declared.facts.EntryFacts.{EntryFacts}
-use Rattle.file_entries.specs.Entry.{Entry}
-use Rattle.file_entries.specs.Selection.{IsOffer}
-use Rattle.report_text.specs.Offers.{facts_of_group, AreOffers, offers_text}
+use Rattle.tool_text.specs.entry_model.declared.facts.EntryFacts.{EntryFacts}
+use Rattle.tool_text.specs.entry_model.Entry.{Entry}
+use Rattle.tool_text.specs.entry_model.Selection.{IsOffer}
+use Rattle.tool_text.specs.report_text.Offers.{facts_of_group, AreOffers, offers_text}
 use Rattle.uc_select.specs.Offers.{AreOffers as AreOffersAt}
 use Rattle.uc_cli.specs.Selecting.{cores_of, PutsOffers}
 use Rattle.uc_catalog.specs.Contents.{kept}

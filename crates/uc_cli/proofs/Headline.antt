@@ -1,9 +1,9 @@
 -- What was written is of texts that hold more, where each text does.
 use Rattle.std.proofs.Common.{ℕ, List, Option}
-use Rattle.top_call.specs.declared.status.Status.{Status}
-use Rattle.top_call.specs.declared.status.Status.TheVariants.{Done, Usage, BadInput, Short, ReadFault, WriteFault, Panicked, NoMemory}
-use Rattle.top_call.specs.Written.{Written, WroteText, StartsText}
-use Rattle.file_reads.specs.Reads.{Read}
+use Rattle.status_rule.specs.declared.status.Status.{Status}
+use Rattle.status_rule.specs.declared.status.Status.TheVariants.{Done, Usage, BadInput, Short, ReadFault, WriteFault, Panicked, NoMemory}
+use Rattle.status_rule.specs.Written.{Written, WroteText, StartsText}
+use Rattle.tool_text.specs.read_model.Reads.{Read}
 use Rattle.tool_text.specs.Words.{Asked}
 use Rattle.tool_text.specs.Tool.{AskedText, FromReads}
 use Rattle.tool_text.specs.Headline.{HoldingText}

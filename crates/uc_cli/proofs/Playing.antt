@@ -5,24 +5,24 @@ use Rattle.std.proofs.lemmas.List.{append-nil}
 use Rattle.uc_io.specs.Faults.{Rose}
 use Rattle.uc_io.specs.Writing.{Grew}
 use Rattle.uc_topology.specs.Stated.{Machine}
-use Rattle.file_reads.specs.Accepts.{IsMachine}
-use Rattle.file_reads.specs.Reads.{Read, AreHeld}
-use Rattle.file_reads.proofs.Outcomes.{held_cons, held_one}
-use Rattle.report_text.specs.Lines.{unread_line}
-use Rattle.script_text.specs.Accepts.{IsScript}
-use Rattle.script_text.specs.Lines.{script_line}
-use Rattle.script_text.specs.Stated.{Stated}
-use Rattle.session_text.specs.declared.answers.SessionAnswer.{SessionAnswer}
-use Rattle.session_text.specs.declared.answers.SessionAnswer.TheVariants as session
-use Rattle.session_steps.specs.Did.{Did}
-use Rattle.session_steps.specs.Session.{Steps, texts_from, all_reads, session_answer}
-use Rattle.session_steps.specs.Calls.{Outside, HeldWhere, Surroundings}
-use Rattle.session_steps.specs.Played.{FileCause}
-use Rattle.session_steps.specs.Whole.{is_unread, PlaysWhole, PlaysFront, IsPlayedThrough}
-use Rattle.top_call.specs.declared.status.Status.{Status}
-use Rattle.top_call.specs.declared.status.Status.TheVariants as statuses
-use Rattle.top_call.specs.Causes.{ReadCause}
-use Rattle.top_call.specs.Written.{memory_line, GoesWith, HasText, WroteText, StartsText, Written, Ends}
+use Rattle.tool_text.specs.read_model.Accepts.{IsMachine}
+use Rattle.tool_text.specs.read_model.Reads.{Read, AreHeld}
+use Rattle.tool_text.proofs.read_model.Outcomes.{held_cons, held_one}
+use Rattle.tool_text.specs.report_text.Lines.{unread_line}
+use Rattle.tool_text.specs.script_text.Accepts.{IsScript}
+use Rattle.tool_text.specs.script_text.Lines.{script_line}
+use Rattle.tool_text.specs.script_text.Stated.{Stated}
+use Rattle.tool_text.specs.session_text.declared.answers.SessionAnswer.{SessionAnswer}
+use Rattle.tool_text.specs.session_text.declared.answers.SessionAnswer.TheVariants as session
+use Rattle.tool_text.specs.session_steps.Did.{Did}
+use Rattle.tool_text.specs.session_steps.Session.{Steps, texts_from, all_reads, session_answer}
+use Rattle.tool_text.specs.session_steps.Calls.{Outside, HeldWhere, Surroundings}
+use Rattle.tool_text.specs.session_steps.Played.{FileCause}
+use Rattle.tool_text.specs.session_steps.Whole.{is_unread, PlaysWhole, PlaysFront, IsPlayedThrough}
+use Rattle.status_rule.specs.declared.status.Status.{Status}
+use Rattle.status_rule.specs.declared.status.Status.TheVariants as statuses
+use Rattle.status_rule.specs.Causes.{ReadCause}
+use Rattle.status_rule.specs.Written.{memory_line, GoesWith, HasText, WroteText, StartsText, Written, Ends}
 use Rattle.tool_text.specs.Plays.{limits_of, setting_of, status_of, unread_after, PlayText}
 use Rattle.tool_text.specs.Tool.{FromReads}
 use Rattle.tool_laws.proofs.SomeText.{whether_told}

@@ -2,10 +2,10 @@
 use Rattle.std.proofs.Common.{◌≡◌, inl, inr, ℕ, List, Option, Some, None, Result, Ok, Err, MatchResult, sym, subst}
 use Rattle.uc_io.specs.declared.sinks.SinkFailed.{SinkFailed}
 use Rattle.uc_topology.specs.Stated.{Machine}
-use Rattle.top_call.specs.declared.status.Status.{Status}
-use Rattle.top_call.specs.declared.status.Status.TheVariants.{Done, Usage, BadInput, ReadFault, WriteFault, NoMemory}
-use Rattle.top_call.specs.Written.{Written}
-use Rattle.file_reads.specs.Reads.{Read, Outcome, AllRead, NotRead, Refused}
+use Rattle.status_rule.specs.declared.status.Status.{Status}
+use Rattle.status_rule.specs.declared.status.Status.TheVariants.{Done, Usage, BadInput, ReadFault, WriteFault, NoMemory}
+use Rattle.status_rule.specs.Written.{Written}
+use Rattle.tool_text.specs.read_model.Reads.{Read, Outcome, AllRead, NotRead, Refused}
 use Rattle.tool_text.specs.Words.{Asked, Faulty, ListOf, ShowOf, SelectOf, PlayOf, GenOf}
 use Rattle.tool_text.specs.Commands.{StopsAt, Listed, Shown, Selected, FailsAt}
 use Rattle.tool_text.specs.Tool.{AskedText, FromReads}

@@ -1,6 +1,6 @@
 -- Which statuses a command line can end with.
-use Rattle.top_call.specs.declared.status.Status.{Status}
-use Rattle.top_call.specs.declared.status.Status.TheVariants.{Short, Panicked}
+use Rattle.status_rule.specs.declared.status.Status.{Status}
+use Rattle.status_rule.specs.declared.status.Status.TheVariants.{Short, Panicked}
 use Rattle.tool_text.specs.Words.{Asked, PlayOf, GenOf}
 
 -- no session was short, and in none a thread panicked

@@ -1,11 +1,11 @@
 -- What came of a generated session, and the line on it.
 use Rattle.std.specs.Prelude.{ℕ, List, [], ◌∷◌, None, codes, decimal}
-use Rattle.session_text.specs.declared.answers.SessionAnswer.{SessionAnswer}
-use Rattle.top_call.specs.Status.{RanToItsEnd}
-use Rattle.top_call.specs.Written.{GoesWith}
+use Rattle.tool_text.specs.session_text.declared.answers.SessionAnswer.{SessionAnswer}
+use Rattle.status_rule.specs.Status.{RanToItsEnd}
+use Rattle.status_rule.specs.Written.{GoesWith}
 use Rattle.uc_gen.specs.declared.tally.TallySink.{TallySink}
 use Rattle.uc_gen.specs.Tally.{lines_of, last_of, Tallies}
-use Rattle.report_text.specs.Lines.{joined}
+use Rattle.tool_text.specs.report_text.Lines.{joined}
 use Rattle.tool_text.specs.Plays.{status_of, IsGenerated}
 
 -- it was played to its end, and its text was counted; no fault came

@@ -1,10 +1,10 @@
 -- How a run ends whose session came to an answer.
 use Rattle.std.specs.Prelude.{◌≡◌, ℕ, List}
-use Rattle.session_text.specs.declared.answers.SessionAnswer.{SessionAnswer}
-use Rattle.session_text.specs.declared.answers.SessionAnswer.TheVariants.{NoMemory}
-use Rattle.top_call.specs.declared.status.Status.{Status}
-use Rattle.top_call.specs.declared.status.Status.TheVariants as statuses
-use Rattle.top_call.specs.Written.{Ends, memory_line}
+use Rattle.tool_text.specs.session_text.declared.answers.SessionAnswer.{SessionAnswer}
+use Rattle.tool_text.specs.session_text.declared.answers.SessionAnswer.TheVariants.{NoMemory}
+use Rattle.status_rule.specs.declared.status.Status.{Status}
+use Rattle.status_rule.specs.declared.status.Status.TheVariants as statuses
+use Rattle.status_rule.specs.Written.{Ends, memory_line}
 use Rattle.tool_text.specs.Plays.{status_of}
 
 -- nothing more is written, but for the line on want of memory

@@ -3,11 +3,11 @@ use Rattle.std.specs.Prelude.{◌≡◌, ℕ, List, Result, Ok, Err}
 use Rattle.uc_io.specs.Faults.{Rose}
 use Rattle.uc_topology.specs.Stated.{Machine}
 use Rattle.uc_catalog.specs.Contents.{Contents}
-use Rattle.file_reads.specs.Accepts.{IsMachine, RefusesTopology}
-use Rattle.file_reads.specs.Reads.{NotRead, Refused, ReadsOf}
-use Rattle.script_text.specs.declared.forms.Limits.{Limits}
-use Rattle.script_text.specs.Stated.{Stated}
-use Rattle.script_text.specs.Accepts.{IsScript, RefusesScript}
+use Rattle.tool_text.specs.read_model.Accepts.{IsMachine, RefusesTopology}
+use Rattle.tool_text.specs.read_model.Reads.{NotRead, Refused, ReadsOf}
+use Rattle.tool_text.specs.script_text.declared.forms.Limits.{Limits}
+use Rattle.tool_text.specs.script_text.Stated.{Stated}
+use Rattle.tool_text.specs.script_text.Accepts.{IsScript, RefusesScript}
 use Rattle.update_reads.specs.Reading.{IsOfFiles}
 use Rattle.uc_cli.specs.declared.refusal.Refusal.{Refusal}
 use Rattle.uc_cli.specs.declared.refusal.Refusal.TheVariants.{Unread, BadFile, BadTopology, BadScript, NoMemory}

@@ -1,10 +1,10 @@
 -- The line on a refusal, and its status.
 use Rattle.std.specs.Prelude.{ℕ, List}
-use Rattle.top_call.specs.declared.status.Status.{Status}
-use Rattle.top_call.specs.declared.status.Status.TheVariants as statuses
-use Rattle.top_call.specs.Written.{memory_line}
-use Rattle.report_text.specs.Lines.{unread_line, fault_line, topology_line, no_entry_line}
-use Rattle.script_text.specs.Lines.{script_line}
+use Rattle.status_rule.specs.declared.status.Status.{Status}
+use Rattle.status_rule.specs.declared.status.Status.TheVariants as statuses
+use Rattle.status_rule.specs.Written.{memory_line}
+use Rattle.tool_text.specs.report_text.Lines.{unread_line, fault_line, topology_line, no_entry_line}
+use Rattle.tool_text.specs.script_text.Lines.{script_line}
 use Rattle.uc_cli.specs.declared.refusal.Refusal.{Refusal}
 use Rattle.uc_cli.specs.declared.refusal.Refusal.TheVariants.{Unread, BadFile, BadTopology, BadScript}
 use Rattle.uc_cli.specs.declared.refusal.Refusal.TheVariants.{NoEntry, NoMemory}

@@ -3,9 +3,9 @@ use Rattle.std.specs.Prelude.{ℕ, List, Option, Some, map, Result}
 use Rattle.std.specs.List.{range_with_len}
 use Rattle.uc_io.specs.Writing.{Writes}
 use Rattle.uc_topology.specs.Stated.{Machine, group_count}
-use Rattle.file_entries.specs.declared.facts.CoreFacts.{CoreFacts}
-use Rattle.file_entries.specs.Entry.{Entry}
-use Rattle.report_text.specs.Offers.{AreOffers, offers_text, facts_of_group}
+use Rattle.tool_text.specs.entry_model.declared.facts.CoreFacts.{CoreFacts}
+use Rattle.tool_text.specs.entry_model.Entry.{Entry}
+use Rattle.tool_text.specs.report_text.Offers.{AreOffers, offers_text, facts_of_group}
 use Rattle.tool_text.specs.Commands.{facts_at}
 
 -- the facts of the cores of each group

@@ -2,20 +2,20 @@
 ghost use Rattle.std.specs.Prelude.{◌≡◌, [], IfOk};
 ghost use Rattle.gen_laws.specs.Stated.{machine_of, script_of};
 ghost use Rattle.uc_io.specs.Writing.{Writes};
-ghost use Rattle.top_call.specs.Causes.{WriteCause};
-ghost use Rattle.top_call.specs.Written.{Written};
+ghost use Rattle.status_rule.specs.Causes.{WriteCause};
+ghost use Rattle.status_rule.specs.Written.{Written};
 ghost use Rattle.tool_text.specs.Plays.{GenText, status_of};
 ghost use Rattle.uc_cli.specs.Generating.{WasPlayed, summary_of};
 
 use crate::refusal::{Refusal, refuse};
-use command_laws::each_command_does_something;
 use ctl_core::Scheduled;
 use gen_laws::{generated_script_is_read, generated_texts_are_short, generated_topology_is_read};
-use script_text::Script;
-use session_text::SessionAnswer;
+use status_rule::{Status, after_write};
 use std::alloc::Global;
 use tool_laws::some_session_text;
-use top_call::{Status, after_write};
+use tool_text::command_laws::each_command_does_something;
+use tool_text::script_text::Script;
+use tool_text::session_text::SessionAnswer;
 use uc_bytes::NoMemory;
 use uc_gen::{TallySink, make_intel, make_script, make_topology};
 use uc_io::{Sink, SinkFailed, SureFiles, write_line};

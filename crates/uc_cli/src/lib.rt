@@ -18,6 +18,6 @@ mod words;
 pub use play::end_session;
 pub use reading::{read_commands, read_machine};
 pub use refusal::{Refusal, refuse};
+pub use status_rule::Status;
 pub use tool::run_tool;
-pub use top_call::Status;
 pub use words::is_name;

@@ -1,16 +1,16 @@
 //! `list`: what update files hold.
 ghost use Rattle.std.specs.Prelude.{◌≡◌, ◌≤◌, length};
 ghost use Rattle.uc_io.specs.Faults.{Rose};
-ghost use Rattle.top_call.specs.Causes.{ReadCause, WriteCause};
-ghost use Rattle.top_call.specs.Written.{Written};
+ghost use Rattle.status_rule.specs.Causes.{ReadCause, WriteCause};
+ghost use Rattle.status_rule.specs.Written.{Written};
 ghost use Rattle.tool_text.specs.Commands.{ListText};
 ghost use Rattle.tool_text.specs.Tool.{FromReads, UsageCause};
 ghost use Rattle.tool_text.specs.Words.{ListOf};
 
 use crate::reading::read_updates;
 use crate::refusal::refuse;
+use status_rule::{Status, after_write};
 use std::alloc::Global;
-use top_call::{Status, after_write};
 use uc_bytes::Text;
 use uc_catalog::Catalog;
 use uc_io::{Files, Sink};

@@ -1,8 +1,8 @@
 //! `play`: the session of a script on the machine of a topology.
 ghost use Rattle.std.specs.Prelude.{◌≡◌, ◌≤◌};
 ghost use Rattle.uc_io.specs.Faults.{Rose};
-ghost use Rattle.top_call.specs.Causes.{ReadCause, WriteCause};
-ghost use Rattle.top_call.specs.Written.{Written};
+ghost use Rattle.status_rule.specs.Causes.{ReadCause, WriteCause};
+ghost use Rattle.status_rule.specs.Written.{Written};
 ghost use Rattle.tool_text.specs.Plays.{PlayText};
 ghost use Rattle.tool_text.specs.Tool.{FromReads, UsageCause};
 ghost use Rattle.tool_text.specs.Words.{PlayOf};
@@ -11,10 +11,10 @@ ghost use Rattle.uc_cli.specs.Playing.{IsEnded};
 use crate::reading::{read_commands, read_machine};
 use crate::refusal::{Refusal, refuse};
 use ctl_core::Scheduled;
-use session_text::SessionAnswer;
+use status_rule::Status;
 use std::alloc::Global;
 use tool_laws::some_session_text;
-use top_call::Status;
+use tool_text::session_text::SessionAnswer;
 use uc_bytes::Text;
 use uc_io::{Files, Sink};
 use uc_session::run_session;

@@ -5,10 +5,9 @@ ghost use Rattle.uc_cli.specs.Reading.{AreUpdatesRead, IsTopologyRead, IsScriptR
 ghost use Rattle.tool_text.specs.Plays.{limits_of};
 
 use crate::refusal::Refusal;
-use file_reads::TOPOLOGY_LIMIT;
-use script_text::SCRIPT_LIMIT;
-use script_text::{Script, ScriptCause, ScriptFault};
 use std::alloc::Global;
+use tool_text::read_model::TOPOLOGY_LIMIT;
+use tool_text::script_text::{SCRIPT_LIMIT, Script, ScriptCause, ScriptFault};
 use uc_bytes::Text;
 use uc_catalog::Catalog;
 use uc_io::{Files, ReadAnswer};

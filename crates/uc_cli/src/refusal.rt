@@ -1,15 +1,15 @@
 //! Why a command writes nothing but a line that says so.
 ghost use Rattle.uc_io.specs.Writing.{Writes};
-ghost use Rattle.top_call.specs.Causes.{WriteCause};
-ghost use Rattle.top_call.specs.Written.{Ends, memory_line};
+ghost use Rattle.status_rule.specs.Causes.{WriteCause};
+ghost use Rattle.status_rule.specs.Written.{Ends, memory_line};
 ghost use Rattle.uc_cli.specs.Refusal.{line_of, status_of};
 
-use uc_script::put_script_fault;
-use script_text::ScriptFault;
-use top_call::{Status, after_write};
+use status_rule::{Status, after_write};
+use tool_text::script_text::ScriptFault;
 use uc_bytes::{FileFault, Text};
 use uc_io::{Sink, SinkFailed, write_line};
 use uc_report::{put_fault, put_no_entry, put_topology_fault, put_unread};
+use uc_script::put_script_fault;
 use uc_topology::TopoFault;
 
 /// Why a command writes nothing but a line that says so.

@@ -1,8 +1,8 @@
 //! `select`: the entry that each core of a machine is offered.
 ghost use Rattle.std.specs.Prelude.{◌≡◌, ◌≤◌, length};
 ghost use Rattle.uc_io.specs.Faults.{Rose};
-ghost use Rattle.top_call.specs.Causes.{ReadCause, WriteCause};
-ghost use Rattle.top_call.specs.Written.{Written};
+ghost use Rattle.status_rule.specs.Causes.{ReadCause, WriteCause};
+ghost use Rattle.status_rule.specs.Written.{Written};
 ghost use Rattle.tool_text.specs.Commands.{SelectText};
 ghost use Rattle.tool_text.specs.Tool.{FromReads, UsageCause};
 ghost use Rattle.tool_text.specs.Words.{SelectOf};
@@ -11,8 +11,8 @@ ghost use Rattle.uc_cli.specs.Selecting.{cores_of, PutsOffers};
 use crate::reading::{read_machine, read_updates};
 use crate::refusal::refuse;
 use arrayvec::ArrayVec;
+use status_rule::{Status, after_write};
 use std::alloc::Global;
-use top_call::{Status, after_write};
 use uc_bytes::Text;
 use uc_catalog::Catalog;
 use uc_io::{Files, Sink, SinkFailed};

@@ -8,8 +8,8 @@ use Rattle.std.proofs.lemmas.List.Sums.{sum_by-cons}
 use Rattle.intel_format.specs.File.{FileUpdate}
 use Rattle.amd_format.specs.Equiv.{rows_of}
 use Rattle.amd_format.specs.File.{FileContainer, container_bytes, patches_in}
-use Rattle.file_entries.specs.Reading.{Reading, OfIntel, OfAmd}
-use Rattle.file_entries.specs.Entry.{Entry, entries_of_updates, entries_of_sections, entries_of_containers, entries_of, entries_from}
+use Rattle.entry_model.specs.Reading.{Reading, OfIntel, OfAmd}
+use Rattle.entry_model.specs.Entry.{Entry, entries_of_updates, entries_of_sections, entries_of_containers, entries_of, entries_from}
 use Rattle.report_text.specs.Listing.{entry_text, entries_text, file_text, files_text, vendor_of}
 use Rattle.uc_catalog.specs.Contents.{FileSum, sum_of, kept}
 use Rattle.uc_report.proofs.Counted.{none_left}

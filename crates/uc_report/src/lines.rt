@@ -8,7 +8,7 @@ ghost use Rattle.report_text.specs.Listing.{AreDateTexts, entry_line};
 
 use crate::line::Line;
 use arrayvec::ArrayVec;
-use file_entries::EntryFacts;
+use entry_model::EntryFacts;
 use intel_header::day_of;
 use uc_bytes::{Text, Vendor};
 use uc_io::{Sink, SinkFailed, write_line};

@@ -1,8 +1,8 @@
 //! The list of files and their entries.
 ghost use Rattle.std.specs.Prelude.{◌≡◌, ◌<◌, ◌≤◌, ◌+◌, ◌-◌, ℕ, List, length, map, take, drop, flat_map};
 ghost use Rattle.uc_io.specs.Writing.{Writes};
-ghost use Rattle.file_entries.specs.Entry.{served, entries_of};
-ghost use Rattle.file_entries.specs.Reading.{Reading};
+ghost use Rattle.entry_model.specs.Entry.{served, entries_of};
+ghost use Rattle.entry_model.specs.Reading.{Reading};
 ghost use Rattle.report_text.specs.Lines.{pair_line, sig_line};
 ghost use Rattle.report_text.specs.Listing.{AreDateTexts, entry_text, entries_text, file_text, files_text};
 ghost use Rattle.uc_catalog.specs.Contents.{sum_of, kept, file_at, entry_at, IsOfReadings};

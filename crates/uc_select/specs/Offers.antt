@@ -1,8 +1,8 @@
 -- The offers of a list of cores.
 use Rattle.std.specs.Prelude.{◌≡◌, ℕ, Bool, List, [], ◌∷◌, Option, Some, None}
-use Rattle.file_entries.specs.declared.facts.CoreFacts.{CoreFacts}
-use Rattle.file_entries.specs.Entry.{Entry}
-use Rattle.file_entries.specs.Selection.{IsOffer}
+use Rattle.entry_model.specs.declared.facts.CoreFacts.{CoreFacts}
+use Rattle.entry_model.specs.Entry.{Entry}
+use Rattle.entry_model.specs.Selection.{IsOffer}
 
 -- what stands at the place of a core, or at one that has none
 abbrev pub IsOfferAt : List Entry → Option CoreFacts → Bool → Option ℕ → Type 0

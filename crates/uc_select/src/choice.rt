@@ -1,12 +1,12 @@
 //! The entry that a core is offered.
 ghost use Rattle.std.specs.Prelude.{◌≡◌, ◌<◌, ◌≤◌, ◌↔◌, IsTrue, None, length, take, slice_index_or};
-ghost use Rattle.file_entries.specs.Selection.{Admissible, IsOffer};
+ghost use Rattle.entry_model.specs.Selection.{Admissible, IsOffer};
 ghost use Rattle.uc_catalog.specs.Contents.{entry_at};
 ghost use Rattle.uc_select.specs.Offers.{IsOfferAt, AreOffers};
 
 use crate::fit::{fits, is_safe};
 use arrayvec::ArrayVec;
-use file_entries::CoreFacts;
+use entry_model::CoreFacts;
 use uc_catalog::Catalog;
 
 /// Whether an entry of a revision above the core's is admissible.

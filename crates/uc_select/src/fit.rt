@@ -1,10 +1,10 @@
 //! Which cores an entry is for. Linux 6.7, `arch/x86/kernel/cpu/microcode`, `intel.c` and `amd.c`.
 ghost use Rattle.std.specs.Prelude.{◌<◌, ◌↔◌, IsTrue, length};
-ghost use Rattle.file_entries.specs.Selection.{FlagsMeet, HasPair, IsServed, Fits, IsSafe};
+ghost use Rattle.entry_model.specs.Selection.{FlagsMeet, HasPair, IsServed, Fits, IsSafe};
 ghost use Rattle.uc_catalog.specs.Contents.{entry_at};
 
 use amd_file::sig_family;
-use file_entries::CoreFacts;
+use entry_model::CoreFacts;
 use uc_bytes::Vendor;
 use uc_catalog::Catalog;
 

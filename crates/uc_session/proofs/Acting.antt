@@ -3,18 +3,18 @@ use Rattle.std.proofs.Common.{◌≡◌, ℕ, Bool, true, false, List, [], Optio
 use Rattle.std.proofs.lemmas.List.Elements.{All-nil}
 use Rattle.uc_io.specs.Faults.{Rose}
 use Rattle.uc_bytes.specs.declared.causes.FileFault.{FileFault}
-use Rattle.file_reads.specs.Reads.{Read}
-use Rattle.script_text.specs.declared.command.Command.{Command}
-use Rattle.script_text.specs.declared.command.Command.TheVariants as command
-use Rattle.machine_steps.specs.declared.answers.HotAnswer.TheVariants.{Booted}
-use Rattle.machine_steps.specs.declared.bring_ups.BringUp.{BringUp}
-use Rattle.machine_steps.specs.Hardware.{is_off}
-use Rattle.machine_steps.specs.BringUps.{AllBrought}
-use Rattle.machine_steps.specs.Puts.{Puts}
-use Rattle.region_steps.specs.Region.{Patches}
-use Rattle.session_text.specs.declared.answers.CommandAnswer.{CommandAnswer}
-use Rattle.session_text.specs.declared.answers.CommandAnswer.TheVariants.{Done, Hot, Load}
-use Rattle.session_text.specs.declared.answers.LoadAnswer.TheVariants as load
+use Rattle.session_steps.specs.read_model.Reads.{Read}
+use Rattle.session_steps.specs.script_text.declared.command.Command.{Command}
+use Rattle.session_steps.specs.script_text.declared.command.Command.TheVariants as command
+use Rattle.session_steps.specs.machine_steps.declared.answers.HotAnswer.TheVariants.{Booted}
+use Rattle.session_steps.specs.machine_steps.declared.bring_ups.BringUp.{BringUp}
+use Rattle.session_steps.specs.machine_steps.Hardware.{is_off}
+use Rattle.session_steps.specs.machine_steps.BringUps.{AllBrought}
+use Rattle.session_steps.specs.machine_steps.Puts.{Puts}
+use Rattle.session_steps.specs.region_steps.Region.{Patches}
+use Rattle.session_steps.specs.session_text.declared.answers.CommandAnswer.{CommandAnswer}
+use Rattle.session_steps.specs.session_text.declared.answers.CommandAnswer.TheVariants.{Done, Hot, Load}
+use Rattle.session_steps.specs.session_text.declared.answers.LoadAnswer.TheVariants as load
 use Rattle.session_steps.specs.State.{Setting, State}
 use Rattle.session_steps.specs.Did.{Did, only, ups_text}
 use Rattle.session_steps.specs.Step.{SessionStep, ReadAll, booted, brought_at_boot}

@@ -4,15 +4,15 @@ use Rattle.std.proofs.lemmas.Bool.{false≢true}
 use Rattle.uc_io.specs.Faults.{Rose}
 use Rattle.uc_io.specs.Writing.{Grew, Writes}
 use Rattle.uc_io.proofs.Writes.{Grew-then, Writes-then}
-use Rattle.top_call.specs.Written.{IsFront}
-use Rattle.script_text.specs.declared.command.Command.{Command}
-use Rattle.session_text.specs.Lines.{answer_line}
-use Rattle.session_text.specs.declared.answers.CommandAnswer.{CommandAnswer}
-use Rattle.session_text.specs.declared.answers.Played.{Played}
-use Rattle.session_text.specs.declared.answers.Played.TheVariants.{Answered, WriteFault, NoMemory}
+use Rattle.session_steps.specs.status_rule.Written.{IsFront}
+use Rattle.session_steps.specs.script_text.declared.command.Command.{Command}
+use Rattle.session_steps.specs.session_text.Lines.{answer_line}
+use Rattle.session_steps.specs.session_text.declared.answers.CommandAnswer.{CommandAnswer}
+use Rattle.session_steps.specs.session_text.declared.answers.Played.{Played}
+use Rattle.session_steps.specs.session_text.declared.answers.Played.TheVariants.{Answered, WriteFault, NoMemory}
 use Rattle.session_steps.specs.State.{Setting, State}
 use Rattle.session_steps.specs.Did.{Did}
-use Rattle.session_text.specs.Headings.{heading, names_in}
+use Rattle.session_steps.specs.session_text.Headings.{heading, names_in}
 use Rattle.session_steps.specs.Session.{text_of}
 use Rattle.session_steps.specs.Calls.{Outside, Situation}
 use Rattle.session_steps.specs.Played.{is_read_fault, MayRun, FileCause, ran_once, Starts, IsPlayed, LeftBy}

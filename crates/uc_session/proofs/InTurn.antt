@@ -5,16 +5,16 @@ use Rattle.std.proofs.lemmas.List.{take_all}
 use Rattle.std.specs.List.{All}
 use Rattle.uc_io.specs.Faults.{Rose}
 use Rattle.uc_topology.specs.Stated.{Machine, IsPartition}
-use Rattle.file_reads.specs.Reads.{Read, AreHeld}
-use Rattle.rendezvous_rule.specs.Runs.{AlwaysRuns}
-use Rattle.rendezvous_steps.specs.ItemText.{item_line}
-use Rattle.script_text.specs.declared.command.Command.{Command}
-use Rattle.script_text.specs.declared.command.Command.TheVariants as command
-use Rattle.script_text.specs.Within.{fits_command}
-use Rattle.session_text.specs.declared.answers.CommandAnswer.{CommandAnswer}
-use Rattle.session_text.specs.declared.answers.CommandAnswer.TheVariants.{Done, Hot, Load}
-use Rattle.session_text.specs.declared.answers.LoadAnswer.TheVariants as load
-use Rattle.session_text.specs.declared.answers.SessionAnswer.{SessionAnswer}
+use Rattle.session_steps.specs.read_model.Reads.{Read, AreHeld}
+use Rattle.session_steps.specs.rendezvous_rule.Runs.{AlwaysRuns}
+use Rattle.session_steps.specs.rendezvous_steps.ItemText.{item_line}
+use Rattle.session_steps.specs.script_text.declared.command.Command.{Command}
+use Rattle.session_steps.specs.script_text.declared.command.Command.TheVariants as command
+use Rattle.session_steps.specs.script_text.Within.{fits_command}
+use Rattle.session_steps.specs.session_text.declared.answers.CommandAnswer.{CommandAnswer}
+use Rattle.session_steps.specs.session_text.declared.answers.CommandAnswer.TheVariants.{Done, Hot, Load}
+use Rattle.session_steps.specs.session_text.declared.answers.LoadAnswer.TheVariants as load
+use Rattle.session_steps.specs.session_text.declared.answers.SessionAnswer.{SessionAnswer}
 use Rattle.session_steps.specs.State.{Setting, State, machine_of, opening_state}
 use Rattle.session_steps.specs.Session.{ends_session, is_done, ended_by, answer_by, short_unless}
 use Rattle.session_steps.specs.Calls.{Outside, HeldWhere, Surroundings, Situation, around}

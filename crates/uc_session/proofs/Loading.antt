@@ -4,21 +4,21 @@ use Rattle.std.specs.List.{slice_index}
 use Rattle.std.proofs.lemmas.Bool.Decides.{nat_tests}
 use Rattle.uc_io.specs.Writing.{Writes}
 use Rattle.patch_pool.specs.declared.pool.PatchId.{PatchId}
-use Rattle.file_entries.specs.Entry.{Entry}
-use Rattle.file_reads.specs.Reads.{Read}
-use Rattle.rendezvous_steps.specs.declared.ends.Beat.{Beat}
-use Rattle.rendezvous_steps.specs.Plan.{Plan, Sound}
-use Rattle.rendezvous_steps.specs.Padded.{Padded}
-use Rattle.rendezvous_model.specs.Verdict.{Verdict, LoadVerdict}
-use Rattle.rendezvous_rule.specs.Runs.{RunOf, RanGrows}
+use Rattle.session_steps.specs.entry_model.Entry.{Entry}
+use Rattle.session_steps.specs.read_model.Reads.{Read}
+use Rattle.session_steps.specs.rendezvous_steps.declared.ends.Beat.{Beat}
+use Rattle.session_steps.specs.rendezvous_steps.Plan.{Plan, Sound}
+use Rattle.session_steps.specs.rendezvous_steps.Padded.{Padded}
+use Rattle.session_steps.specs.rendezvous_model.Verdict.{Verdict, LoadVerdict}
+use Rattle.session_steps.specs.rendezvous_rule.Runs.{RunOf, RanGrows}
 use Rattle.round_laws.specs.Laws.{VerdictHolds}
 use Rattle.play_laws.specs.Lawful.{EventLaw, OpeningIsLawful}
-use Rattle.rendezvous_steps.specs.ItemText.{item_line}
-use Rattle.machine_steps.specs.Hardware.{Hardware, is_on}
-use Rattle.machine_steps.specs.Puts.{Puts}
-use Rattle.script_text.specs.declared.command.Command.TheVariants.{Load}
-use Rattle.session_text.specs.Lines.{answer_line}
-use Rattle.session_text.specs.declared.answers.Played.{Played}
+use Rattle.session_steps.specs.rendezvous_steps.ItemText.{item_line}
+use Rattle.session_steps.specs.machine_steps.Hardware.{Hardware, is_on}
+use Rattle.session_steps.specs.machine_steps.Puts.{Puts}
+use Rattle.session_steps.specs.script_text.declared.command.Command.TheVariants.{Load}
+use Rattle.session_steps.specs.session_text.Lines.{answer_line}
+use Rattle.session_steps.specs.session_text.declared.answers.Played.{Played}
 use Rattle.session_steps.specs.State.{Setting, State, machine_of}
 use Rattle.session_steps.specs.Offers.{AreLoadOffers, SomethingOffered, load_offers_text, plan_of as load_plan}
 use Rattle.session_steps.specs.Did.{results_text, loaded}

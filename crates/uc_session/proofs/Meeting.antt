@@ -3,25 +3,25 @@ use Rattle.std.proofs.Common.{◌≡◌, ℕ, Bool, false, List, ◌++◌, Optio
 use Rattle.uc_io.specs.Faults.{Rose}
 use Rattle.uc_io.specs.Writing.{Writes}
 use Rattle.uc_io.proofs.Writes.{Grew-then, Writes-then}
-use Rattle.file_entries.specs.Entry.{Entry}
-use Rattle.file_reads.specs.Reads.{Read}
-use Rattle.rendezvous_steps.specs.declared.ends.Beat.{Beat}
-use Rattle.rendezvous_steps.specs.Plan.{Plan, Sound}
-use Rattle.rendezvous_steps.specs.Padded.{Padded}
-use Rattle.rendezvous_model.specs.Outcome.{Outcome}
-use Rattle.rendezvous_model.specs.Verdict.{Verdict, LoadVerdict, load_verdict}
-use Rattle.rendezvous_model.specs.Verdict as verdict
-use Rattle.rendezvous_rule.specs.Ran.{Ran}
-use Rattle.rendezvous_rule.specs.Runs.{RunOf, SomeRun}
+use Rattle.session_steps.specs.entry_model.Entry.{Entry}
+use Rattle.session_steps.specs.read_model.Reads.{Read}
+use Rattle.session_steps.specs.rendezvous_steps.declared.ends.Beat.{Beat}
+use Rattle.session_steps.specs.rendezvous_steps.Plan.{Plan, Sound}
+use Rattle.session_steps.specs.rendezvous_steps.Padded.{Padded}
+use Rattle.session_steps.specs.rendezvous_model.Outcome.{Outcome}
+use Rattle.session_steps.specs.rendezvous_model.Verdict.{Verdict, LoadVerdict, load_verdict}
+use Rattle.session_steps.specs.rendezvous_model.Verdict as verdict
+use Rattle.session_steps.specs.rendezvous_rule.Ran.{Ran}
+use Rattle.session_steps.specs.rendezvous_rule.Runs.{RunOf, SomeRun}
 use Rattle.round_laws.specs.Laws.{VerdictHolds}
-use Rattle.rendezvous_steps.specs.ItemText.{item_line}
-use Rattle.machine_steps.specs.Puts.{Puts}
-use Rattle.script_text.specs.declared.command.Command.{Command}
-use Rattle.script_text.specs.declared.command.Command.TheVariants as command
-use Rattle.session_text.specs.Lines.{answer_line}
-use Rattle.session_text.specs.declared.answers.CommandAnswer.{CommandAnswer}
-use Rattle.session_text.specs.declared.answers.Played.{Played}
-use Rattle.session_text.specs.declared.answers.Played.TheVariants.{Answered, WriteFault, NoMemory}
+use Rattle.session_steps.specs.rendezvous_steps.ItemText.{item_line}
+use Rattle.session_steps.specs.machine_steps.Puts.{Puts}
+use Rattle.session_steps.specs.script_text.declared.command.Command.{Command}
+use Rattle.session_steps.specs.script_text.declared.command.Command.TheVariants as command
+use Rattle.session_steps.specs.session_text.Lines.{answer_line}
+use Rattle.session_steps.specs.session_text.declared.answers.CommandAnswer.{CommandAnswer}
+use Rattle.session_steps.specs.session_text.declared.answers.Played.{Played}
+use Rattle.session_steps.specs.session_text.declared.answers.Played.TheVariants.{Answered, WriteFault, NoMemory}
 use Rattle.session_steps.specs.State.{Setting, State}
 use Rattle.session_steps.specs.Offers.{AreLoadOffers, SomethingOffered, load_offers_text, plan_of}
 use Rattle.session_steps.specs.Did.{Did, results_text, loaded}

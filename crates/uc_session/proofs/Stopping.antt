@@ -3,18 +3,18 @@ use Rattle.std.proofs.Common.{◌≡◌, ℕ, ◌<◌, Bool, true, List, [], len
 use Rattle.std.proofs.lemmas.List.Elements.{All-nil}
 use Rattle.uc_io.specs.Faults.{Rose}
 use Rattle.uc_bytes.specs.declared.causes.FileFault.{FileFault}
-use Rattle.file_reads.specs.Reads.{Read}
+use Rattle.session_steps.specs.read_model.Reads.{Read}
 use Rattle.update_reads.specs.Reading.{IsOfFiles, UnreadAt, RefusedAt}
 use Rattle.update_reads.proofs.Files.{all_entries}
 use Rattle.uc_catalog.specs.Contents.{Contents}
-use Rattle.session_text.specs.declared.answers.LoadAnswer.TheVariants as load
+use Rattle.session_steps.specs.session_text.declared.answers.LoadAnswer.TheVariants as load
 use Rattle.session_steps.specs.State.{Setting, State, first_missing}
 use Rattle.session_steps.specs.Offers.{AreLoadOffers, SomethingOffered, plan_of as load_plan}
 use Rattle.session_steps.specs.Step.{AllPresent, ReadAll}
 use Rattle.session_steps.specs.Calls.{HeldWhere}
-use Rattle.rendezvous_steps.specs.Padded.{Padded}
+use Rattle.session_steps.specs.rendezvous_steps.Padded.{Padded}
 use Rattle.patch_pool.specs.declared.pool.PatchId.{PatchId}
-use Rattle.file_entries.specs.Entry.{Entry}
+use Rattle.session_steps.specs.entry_model.Entry.{Entry}
 use Rattle.session_laws.specs.Standing.{Standing}
 use Rattle.ctl_words.specs.declared.plans.Plan.{Plan as Tables}
 use Rattle.ctl_words.specs.Plans.{plan_of, IsSound}

@@ -1,14 +1,14 @@
 -- What a call came to that does a command in which no rendezvous ran, or is cut short before anything was done.
 use Rattle.std.proofs.Common.{◌≡◌, ℕ, Bool, List, [], ◌++◌, Ok, Err, refl, sym, ◌∙◌, subst, arith, append-nil}
 use Rattle.uc_io.specs.Writing.{Writes}
-use Rattle.file_reads.specs.Reads.{Read, AreHeld}
-use Rattle.script_text.specs.declared.command.Command.{Command}
-use Rattle.session_text.specs.Lines.{answer_line}
-use Rattle.session_text.specs.declared.answers.Played.{Played}
-use Rattle.session_text.specs.declared.answers.Played.TheVariants.{Answered, WriteFault, NoMemory}
+use Rattle.session_steps.specs.read_model.Reads.{Read, AreHeld}
+use Rattle.session_steps.specs.script_text.declared.command.Command.{Command}
+use Rattle.session_steps.specs.session_text.Lines.{answer_line}
+use Rattle.session_steps.specs.session_text.declared.answers.Played.{Played}
+use Rattle.session_steps.specs.session_text.declared.answers.Played.TheVariants.{Answered, WriteFault, NoMemory}
 use Rattle.session_steps.specs.State.{Setting}
 use Rattle.session_steps.specs.Did.{ups_text}
-use Rattle.session_text.specs.Headings.{heading, names_in}
+use Rattle.session_steps.specs.session_text.Headings.{heading, names_in}
 use Rattle.session_steps.specs.Calls.{Outside, Situation}
 use Rattle.session_steps.specs.Played.{FileCause, IsPlayed}
 use Rattle.command_laws.specs.Steps.{SomeStep}

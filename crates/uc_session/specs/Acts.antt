@@ -1,8 +1,8 @@
 -- What a command did in which no rendezvous ran.
 use Rattle.std.specs.Prelude.{ℕ, Bool, List, [], None}
-use Rattle.file_reads.specs.Reads.{Read}
-use Rattle.script_text.specs.declared.command.Command.{Command}
-use Rattle.script_text.specs.declared.command.Command.TheVariants as command
+use Rattle.session_steps.specs.read_model.Reads.{Read}
+use Rattle.session_steps.specs.script_text.declared.command.Command.{Command}
+use Rattle.session_steps.specs.script_text.declared.command.Command.TheVariants as command
 use Rattle.session_steps.specs.State.{Setting, State}
 use Rattle.session_steps.specs.Did.{Did, ups_text}
 use Rattle.session_steps.specs.Step.{SessionStep}

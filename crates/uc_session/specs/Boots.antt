@@ -1,10 +1,10 @@
 -- What a boot from the entries of a catalogue came to.
 use Rattle.std.specs.Prelude.{◌≡◌, ℕ, List, [], Option, Err}
-use Rattle.file_entries.specs.Entry.{Entry}
-use Rattle.report_text.specs.Offers.{AreOffers}
-use Rattle.session_text.specs.declared.answers.CommandAnswer.{CommandAnswer}
-use Rattle.session_text.specs.declared.answers.CommandAnswer.TheVariants.{Done, Load}
-use Rattle.session_text.specs.declared.answers.LoadAnswer.TheVariants.{PoolFull}
+use Rattle.session_steps.specs.entry_model.Entry.{Entry}
+use Rattle.session_steps.specs.report_text.Offers.{AreOffers}
+use Rattle.session_steps.specs.session_text.declared.answers.CommandAnswer.{CommandAnswer}
+use Rattle.session_steps.specs.session_text.declared.answers.CommandAnswer.TheVariants.{Done, Load}
+use Rattle.session_steps.specs.session_text.declared.answers.LoadAnswer.TheVariants.{PoolFull}
 use Rattle.session_steps.specs.State.{Setting, State}
 use Rattle.session_parts.specs.Boots.{puts_of, IsBooted}
 use Rattle.uc_session.specs.declared.acted.Acted.{Acted}

@@ -1,13 +1,13 @@
 -- A load, as far as its rendezvous.
 use Rattle.std.specs.Prelude.{◌≡◌, ℕ, ◌<◌, Bool, List, length, All, Option, IfSome, Err}
-use Rattle.file_reads.specs.Reads.{Read}
-use Rattle.rendezvous_steps.specs.declared.ends.Beat.{Beat}
-use Rattle.rendezvous_steps.specs.Padded.{Padded}
+use Rattle.session_steps.specs.read_model.Reads.{Read}
+use Rattle.session_steps.specs.rendezvous_steps.declared.ends.Beat.{Beat}
+use Rattle.session_steps.specs.rendezvous_steps.Padded.{Padded}
 use Rattle.uc_catalog.specs.Contents.{Contents}
-use Rattle.script_text.specs.declared.command.Command.TheVariants as command
-use Rattle.session_text.specs.declared.answers.CommandAnswer.TheVariants.{Load}
-use Rattle.session_text.specs.declared.answers.LoadAnswer.{LoadAnswer}
-use Rattle.session_text.specs.declared.answers.LoadAnswer.TheVariants.{NotFound, PoolFull}
+use Rattle.session_steps.specs.script_text.declared.command.Command.TheVariants as command
+use Rattle.session_steps.specs.session_text.declared.answers.CommandAnswer.TheVariants.{Load}
+use Rattle.session_steps.specs.session_text.declared.answers.LoadAnswer.{LoadAnswer}
+use Rattle.session_steps.specs.session_text.declared.answers.LoadAnswer.TheVariants.{NotFound, PoolFull}
 use Rattle.session_steps.specs.State.{Setting, State}
 use Rattle.session_steps.specs.Offers.{AreLoadOffers, NothingOffered, SomethingOffered, plan_of as load_plan}
 use Rattle.session_steps.specs.Did.{only}

@@ -2,15 +2,15 @@
 use Rattle.std.specs.Prelude.{◌≡◌, ℕ, ◌≤◌, Bool, false, List, [], ◌∷◌, ◌++◌, Result, Ok, Err}
 use Rattle.uc_io.specs.Faults.{Rose}
 use Rattle.uc_io.specs.Writing.{Grew, Writes}
-use Rattle.top_call.specs.Written.{IsFront}
-use Rattle.rendezvous_steps.specs.declared.ends.Beat.{Beat}
-use Rattle.rendezvous_steps.specs.Plan.{Plan}
-use Rattle.rendezvous_model.specs.Outcome.{Outcome}
-use Rattle.rendezvous_rule.specs.Ran.{Ran}
-use Rattle.rendezvous_rule.specs.Runs.{SomeRun}
-use Rattle.rendezvous_steps.specs.ItemText.{item_line}
-use Rattle.session_text.specs.declared.answers.Played.{Played}
-use Rattle.session_text.specs.declared.answers.Played.TheVariants as played
+use Rattle.session_steps.specs.status_rule.Written.{IsFront}
+use Rattle.session_steps.specs.rendezvous_steps.declared.ends.Beat.{Beat}
+use Rattle.session_steps.specs.rendezvous_steps.Plan.{Plan}
+use Rattle.session_steps.specs.rendezvous_model.Outcome.{Outcome}
+use Rattle.session_steps.specs.rendezvous_rule.Ran.{Ran}
+use Rattle.session_steps.specs.rendezvous_rule.Runs.{SomeRun}
+use Rattle.session_steps.specs.rendezvous_steps.ItemText.{item_line}
+use Rattle.session_steps.specs.session_text.declared.answers.Played.{Played}
+use Rattle.session_steps.specs.session_text.declared.answers.Played.TheVariants as played
 use Rattle.uc_rendezvous.specs.declared.outcomes.Outcome.{Outcome as Tables}
 use Rattle.uc_rendezvous.specs.declared.runs.RunAnswer.{RunAnswer}
 use Rattle.uc_rendezvous.specs.declared.runs.RunAnswer.TheVariants.{WriteFault, NoMemory}

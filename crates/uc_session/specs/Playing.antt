@@ -3,18 +3,18 @@
 use Rattle.std.specs.Prelude.{◌≡◌, ℕ, ◌≤◌, false, List, ◌++◌, All, Ok, Err}
 use Rattle.uc_io.specs.Faults.{Rose}
 use Rattle.uc_io.specs.Writing.{Grew, Writes}
-use Rattle.top_call.specs.Written.{IsFront}
-use Rattle.rendezvous_rule.specs.Runs.{BeatInRange}
-use Rattle.script_text.specs.declared.command.Command.{Command}
-use Rattle.script_text.specs.declared.command.Command.TheVariants as command
-use Rattle.session_text.specs.Lines.{answer_line}
-use Rattle.session_text.specs.declared.answers.CommandAnswer.{CommandAnswer}
-use Rattle.session_text.specs.declared.answers.Played.{Played}
-use Rattle.session_text.specs.declared.answers.Played.TheVariants.{Answered, WriteFault, NoMemory}
+use Rattle.session_steps.specs.status_rule.Written.{IsFront}
+use Rattle.session_steps.specs.rendezvous_rule.Runs.{BeatInRange}
+use Rattle.session_steps.specs.script_text.declared.command.Command.{Command}
+use Rattle.session_steps.specs.script_text.declared.command.Command.TheVariants as command
+use Rattle.session_steps.specs.session_text.Lines.{answer_line}
+use Rattle.session_steps.specs.session_text.declared.answers.CommandAnswer.{CommandAnswer}
+use Rattle.session_steps.specs.session_text.declared.answers.Played.{Played}
+use Rattle.session_steps.specs.session_text.declared.answers.Played.TheVariants.{Answered, WriteFault, NoMemory}
 use Rattle.session_steps.specs.State.{Setting}
 use Rattle.session_steps.specs.Did.{Did}
 use Rattle.session_steps.specs.Step.{SessionStep}
-use Rattle.session_text.specs.Headings.{names_in}
+use Rattle.session_steps.specs.session_text.Headings.{names_in}
 use Rattle.session_steps.specs.Calls.{Outside, Situation}
 use Rattle.session_steps.specs.Played.{LeftBy, FileCause, SinkCause, is_read_fault, ran_once}
 

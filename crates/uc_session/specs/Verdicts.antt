@@ -1,13 +1,13 @@
 -- The verdict on an outcome, as a load answers it.
 use Rattle.std.specs.Prelude.{◌≡◌, ℕ, Bool, Option}
 use Rattle.std.specs.List.{find}
-use Rattle.rendezvous_steps.specs.Plan.{Plan, threads_from}
-use Rattle.rendezvous_model.specs.Outcome.{Outcome}
-use Rattle.rendezvous_model.specs.Verdict.{Verdict, LoadVerdict, halted_at, unfinished_at, refused_at}
-use Rattle.session_text.specs.declared.answers.CommandAnswer.{CommandAnswer}
-use Rattle.session_text.specs.declared.answers.CommandAnswer.TheVariants as command
-use Rattle.session_text.specs.declared.answers.LoadAnswer.{LoadAnswer}
-use Rattle.session_text.specs.declared.answers.LoadAnswer.TheVariants as load
+use Rattle.session_steps.specs.rendezvous_steps.Plan.{Plan, threads_from}
+use Rattle.session_steps.specs.rendezvous_model.Outcome.{Outcome}
+use Rattle.session_steps.specs.rendezvous_model.Verdict.{Verdict, LoadVerdict, halted_at, unfinished_at, refused_at}
+use Rattle.session_steps.specs.session_text.declared.answers.CommandAnswer.{CommandAnswer}
+use Rattle.session_steps.specs.session_text.declared.answers.CommandAnswer.TheVariants as command
+use Rattle.session_steps.specs.session_text.declared.answers.LoadAnswer.{LoadAnswer}
+use Rattle.session_steps.specs.session_text.declared.answers.LoadAnswer.TheVariants as load
 use Rattle.session_steps.specs.Step.{answer_of}
 use Rattle.uc_session.specs.declared.verdicts.Look.{Look}
 use Rattle.uc_session.specs.declared.verdicts.Look.TheVariants.{Halted, Unfinished, Refused}

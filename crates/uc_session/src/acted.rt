@@ -2,15 +2,15 @@
 
 ghost use Rattle.std.specs.Prelude.{◌≡◌, ◌++◌, [], ◌∷◌, MatchResult};
 ghost use Rattle.uc_io.specs.Writing.{Writes};
-ghost use Rattle.session_text.specs.Lines.{answer_line};
-ghost use Rattle.session_text.specs.declared.answers.CommandAnswer.TheVariants.{Done, Hot, Load};
+ghost use Rattle.session_steps.specs.session_text.Lines.{answer_line};
+ghost use Rattle.session_steps.specs.session_text.declared.answers.CommandAnswer.TheVariants.{Done, Hot, Load};
 ghost use Rattle.session_steps.specs.Did.{ups_text};
 
 use arrayvec::ArrayVec;
 use early_load::BringUp;
-use machine_steps::HotAnswer;
 use session_report::{put_answer, put_ups};
-use session_text::{CommandAnswer, LoadAnswer};
+use session_steps::machine_steps::HotAnswer;
+use session_steps::session_text::{CommandAnswer, LoadAnswer};
 use uc_bytes::Text;
 use uc_io::{Sink, SinkFailed};
 

@@ -1,8 +1,8 @@
 //! A boot.
 
 ghost use Rattle.std.specs.Prelude.{◌≡◌, ◌≤◌, true, IsTrue, length, IfOk, IfErr};
-ghost use Rattle.machine_steps.specs.Hardware.{is_off};
-ghost use Rattle.script_text.specs.declared.command.Command.TheVariants.{Boot};
+ghost use Rattle.session_steps.specs.machine_steps.Hardware.{is_off};
+ghost use Rattle.session_steps.specs.script_text.declared.command.Command.TheVariants.{Boot};
 ghost use Rattle.session_laws.specs.Standing.{Standing};
 ghost use Rattle.session_steps.specs.Calls.{HeldWhere};
 ghost use Rattle.session_parts.specs.Parts.{setting_of, state_of};
@@ -12,9 +12,9 @@ ghost use Rattle.uc_session.specs.Boots.{BootsTo};
 use crate::acted::Acted;
 use early_load::BootAnswer;
 use hw_machine::Power;
-use machine_steps::HotAnswer;
 use session_parts::Parts;
-use session_text::{CommandAnswer, LoadAnswer};
+use session_steps::machine_steps::HotAnswer;
+use session_steps::session_text::{CommandAnswer, LoadAnswer};
 use std::alloc::Global;
 use uc_bytes::{NoMemory, Text};
 use uc_catalog::Catalog;

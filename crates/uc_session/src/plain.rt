@@ -8,9 +8,9 @@ ghost use Rattle.session_parts.specs.Parts.{setting_of, state_of};
 ghost use Rattle.uc_session.specs.Acts.{ReadsNoFile, did_by};
 
 use crate::acted::Acted;
-use script_text::Command;
 use session_parts::Parts;
-use session_text::CommandAnswer;
+use session_steps::script_text::Command;
+use session_steps::session_text::CommandAnswer;
 
 /// Does a command that reads no file.
 pub fn act(parts: &mut Parts, command: &Command) -> Acted

@@ -1,13 +1,13 @@
 //! One command, with its text.
 
 ghost use Rattle.std.specs.Prelude.{◌≡◌, ◌≤◌, ◌++◌, Bool, false, [], length};
-ghost use Rattle.script_text.specs.declared.command.Command.TheVariants.{Boot};
-ghost use Rattle.session_text.specs.declared.answers.CommandAnswer.TheVariants.{Load};
-ghost use Rattle.session_text.specs.Lines.{answer_line};
+ghost use Rattle.session_steps.specs.script_text.declared.command.Command.TheVariants.{Boot};
+ghost use Rattle.session_steps.specs.session_text.declared.answers.CommandAnswer.TheVariants.{Load};
+ghost use Rattle.session_steps.specs.session_text.Lines.{answer_line};
 ghost use Rattle.session_laws.specs.Standing.{Standing, InRange};
 ghost use Rattle.session_steps.specs.State.{machine_of};
 ghost use Rattle.session_steps.specs.Did.{ups_text};
-ghost use Rattle.session_text.specs.Headings.{names_in};
+ghost use Rattle.session_steps.specs.session_text.Headings.{names_in};
 ghost use Rattle.session_steps.specs.Calls.{HeldWhere};
 ghost use Rattle.session_steps.specs.Played.{IsPlayed, SinkCause, is_read_fault};
 ghost use Rattle.session_steps.specs.Step.{SessionStep};
@@ -22,10 +22,10 @@ use crate::loads::play_load;
 use crate::plain::act;
 use crate::rooms::Room;
 use command_laws::each_command_does_something;
-use script_text::Command;
 use session_parts::Parts;
 use session_report::put_heading;
-use session_text::{LoadAnswer, Played};
+use session_steps::script_text::Command;
+use session_steps::session_text::{LoadAnswer, Played};
 use std::alloc::Global;
 use uc_bytes::{NoMemory, Text};
 use uc_io::{Files, Sink};

@@ -1,7 +1,7 @@
 //! A whole session: the commands of a script, one after another.
 
 ghost use Rattle.std.specs.Prelude.{◌≡◌, ◌≤◌, ◌&&◌, true, false, length, MatchOption};
-ghost use Rattle.script_text.specs.Within.{IsWithin};
+ghost use Rattle.session_steps.specs.script_text.Within.{IsWithin};
 ghost use Rattle.session_steps.specs.Session.{answer_by, ended_by, ends_session, is_done};
 ghost use Rattle.session_steps.specs.Calls.{HeldWhere};
 ghost use Rattle.session_steps.specs.Whole.{IsPlayedThrough, SinkCauseAt};
@@ -9,9 +9,9 @@ ghost use Rattle.session_steps.specs.Whole.{IsPlayedThrough, SinkCauseAt};
 use crate::sessions::Session;
 use command_laws::each_command_does_something;
 use cut_laws::begun_commands_go_on;
-use script_text::Script;
 use session_laws::each_state_stands;
-use session_text::{CommandAnswer, LoadAnswer, Played, SessionAnswer};
+use session_steps::script_text::Script;
+use session_steps::session_text::{CommandAnswer, LoadAnswer, Played, SessionAnswer};
 use std::alloc::Global;
 use uc_io::{Files, Sink};
 use uc_rendezvous::Rendezvous;

@@ -9,7 +9,7 @@ ghost use Rattle.uc_session.specs.Loads.{ready_of, SetsOut, Stops, SetsOutFrom, 
 
 use ctl_words::tables_end;
 use session_parts::{LoadTables, Parts};
-use session_text::LoadAnswer;
+use session_steps::session_text::LoadAnswer;
 use std::alloc::Global;
 use uc_bytes::Text;
 use uc_catalog::Catalog;

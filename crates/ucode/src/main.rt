@@ -4,9 +4,9 @@
 #![tactic(auto)]
 
 use main_parts::{Speaker, words};
+use status_rule::after_write;
 use std::io;
 use std::process::ExitCode;
-use top_call::after_write;
 use uc_bytes::NoMemory;
 use uc_cli::{Status, run_tool};
 use uc_io::{HostFiles, OutSink};

@@ -5,9 +5,9 @@
 
 use live_cli::{PromptOut, Status, run_live};
 use main_parts::{Speaker, words};
+use status_rule::after_write;
 use std::io;
 use std::process::ExitCode;
-use top_call::after_write;
 use uc_bytes::NoMemory;
 use uc_io::HostFiles;
 use uc_live::{LiveRun, OpenGate};

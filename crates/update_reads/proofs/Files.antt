@@ -5,13 +5,13 @@ use Rattle.std.proofs.Math.Seq.{split_at}
 use Rattle.std.proofs.lemmas.List.{take_more, map-append, append-nil, length-map, length-take-le}
 use Rattle.std.proofs.lemmas.Option.{get_or_from_slice_get, slice_get_within}
 use Rattle.uc_bytes.specs.declared.causes.FileFault.{FileFault}
-use Rattle.file_entries.specs.Reading.{Reading}
-use Rattle.file_entries.specs.Entry.{Entry, entries_of, entries_from}
+use Rattle.entry_model.specs.Reading.{Reading}
+use Rattle.entry_model.specs.Entry.{Entry, entries_of, entries_from}
 use Rattle.uc_bytes.specs.declared.TheConstants.{FILE_LIMIT}
-use Rattle.file_reads.specs.Accepts.{Refuses, AreAccepted}
-use Rattle.file_reads.specs.Reads.{Read, files_of, ComesTo}
-use Rattle.file_reads.proofs.Accepted.{accepted_length, accepted_push}
-use Rattle.file_reads.proofs.Outcomes.{held_nil, held_one, held_append}
+use Rattle.read_model.specs.Accepts.{Refuses, AreAccepted}
+use Rattle.read_model.specs.Reads.{Read, files_of, ComesTo}
+use Rattle.read_model.proofs.Accepted.{accepted_length, accepted_push}
+use Rattle.read_model.proofs.Outcomes.{held_nil, held_one, held_append}
 use Rattle.uc_catalog.specs.Contents.{FileSum, Contents, sum_of, kept, no_files, Adds}
 use Rattle.uc_catalog.proofs.Kept.{kept_all}
 use Rattle.uc_io.specs.Faults.{Rose}

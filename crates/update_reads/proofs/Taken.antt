@@ -1,7 +1,7 @@
 -- The pieces of a file.
 use Rattle.std.proofs.Common.{◌≡◌, inl, inr, ℕ, List, [], ◌++◌, sym, ◌∙◌, ap, append-nil}
 use Rattle.uc_bytes.specs.declared.causes.FileCause.{FileCause}
-use Rattle.file_entries.specs.Reading.{HasFault}
+use Rattle.entry_model.specs.Reading.{HasFault}
 use Rattle.file_rows.specs.FileReading.{IsSettled}
 
 -- where nothing is left, they are the whole file

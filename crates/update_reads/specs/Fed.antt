@@ -2,11 +2,11 @@
 use Rattle.std.specs.Prelude.{◌≡◌, ℕ, ◌≤◌, List, ◌++◌, length, Option, Some, None, Result, Ok, Err}
 use Rattle.uc_bytes.specs.declared.causes.FileFault.{FileFault}
 use Rattle.uc_io.specs.Faults.{Rose}
-use Rattle.file_entries.specs.Reading.{HasFault}
+use Rattle.entry_model.specs.Reading.{HasFault}
 use Rattle.file_rows.specs.FileReading.{IsSettled}
 use Rattle.uc_catalog.specs.Contents.{Contents, Comes, Adds, with_coming}
 use Rattle.uc_bytes.specs.declared.TheConstants.{FILE_LIMIT}
-use Rattle.file_reads.specs.Accepts.{Refuses}
+use Rattle.read_model.specs.Accepts.{Refuses}
 use Rattle.update_reads.specs.declared.answers.UpdateAnswer.{UpdateAnswer}
 use Rattle.update_reads.specs.declared.answers.UpdateAnswer.TheVariants.{ReadFault, BadFile, NoMemory}
 

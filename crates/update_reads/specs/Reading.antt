@@ -2,11 +2,11 @@
 use Rattle.std.specs.Prelude.{◌≡◌, ℕ, suc, ◌≤◌, List, length, None, Result, Ok, Err}
 use Rattle.uc_io.specs.Faults.{Rose}
 use Rattle.uc_bytes.specs.declared.causes.FileFault.{FileFault}
-use Rattle.file_entries.specs.Reading.{Reading}
+use Rattle.entry_model.specs.Reading.{Reading}
 use Rattle.uc_catalog.specs.Contents.{Contents, IsOfReadings, Adds, with_coming}
 use Rattle.uc_bytes.specs.declared.TheConstants.{FILE_LIMIT}
-use Rattle.file_reads.specs.Accepts.{Refuses, AreAccepted}
-use Rattle.file_reads.specs.Reads.{Read, names_of, files_of, AreHeld, Reads, NotRead, Refused}
+use Rattle.read_model.specs.Accepts.{Refuses, AreAccepted}
+use Rattle.read_model.specs.Reads.{Read, names_of, files_of, AreHeld, Reads, NotRead, Refused}
 use Rattle.update_reads.specs.declared.answers.UpdateAnswer.{UpdateAnswer}
 use Rattle.update_reads.specs.declared.answers.UpdateAnswer.TheVariants as update
 use Rattle.update_reads.specs.declared.answers.FilesAnswer.{FilesAnswer}

@@ -1,4 +1,4 @@
-use Rattle.rendezvous_steps.specs.ItemText.{item_line}
+use Rattle.tool_text.specs.rendezvous_steps.ItemText.{item_line}
 use Rattle.tool_laws.proofs.Texts.{texts_hold}
 use Rattle.tool_laws.proofs.each_text_holds.Goals as goal
 

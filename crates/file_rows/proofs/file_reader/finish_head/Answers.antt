@@ -1,6 +1,6 @@
 use Rattle.std.proofs.Common.{◌≡◌, inl, ℕ, ◌<◌, List, [], length, refl, arith}
 use Rattle.std.proofs.lemmas.Bool.Decides.{nat_tests}
-use Rattle.file_entries.specs.Reading.{OfIntel, IsAmd}
+use Rattle.entry_model.specs.Reading.{OfIntel, IsAmd}
 use Rattle.intel_file.proofs.Walks.{none_from_length, ended_short}
 use Rattle.file_rows.proofs.file_reader.finish_head.Goals as goal
 

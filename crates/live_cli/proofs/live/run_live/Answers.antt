@@ -1,7 +1,7 @@
 use Rattle.std.proofs.Common.{subst}
 use Rattle.tool_text.specs.Words.{Asked, PlayOf}
-use Rattle.top_call.specs.declared.status.Status.TheVariants.{Usage}
-use Rattle.top_call.proofs.Endings.{Ends-written, ended_cause}
+use Rattle.status_rule.specs.declared.status.Status.TheVariants.{Usage}
+use Rattle.status_rule.proofs.Endings.{Ends-written, ended_cause}
 use Rattle.live_cli.specs.Able.{CanBeDone}
 use Rattle.live_cli.proofs.Complete.{done_or_memory}
 use Rattle.live_cli.proofs.Headline.{holding}

@@ -2,7 +2,7 @@ use Rattle.std.proofs.Common.{◌≡◌, ℕ, List, [], ◌∷◌, ◌++◌, len
 use Rattle.std.specs.List.{range_with_len}
 use Rattle.std.proofs.lemmas.List.FromFn.{length-map-range_with_len, map-range_with_len_more}
 use Rattle.uc_topology.specs.declared.tables.GroupFacts.{GroupFacts}
-use Rattle.file_entries.specs.declared.facts.CoreFacts.{CoreFacts}
+use Rattle.entry_model.specs.declared.facts.CoreFacts.{CoreFacts}
 use Rattle.report_text.specs.Offers.{facts_of_group}
 use Rattle.session_parts.specs.Facts.{facts_at}
 use Rattle.session_parts.proofs.firmware.firmware_cores.Goals as goal

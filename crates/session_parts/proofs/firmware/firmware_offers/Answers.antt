@@ -1,7 +1,7 @@
 use Rattle.std.proofs.Common.{ℕ, List, Option, Some, None, subst, ◌∙◌}
 use Rattle.std.specs.Prelude.{false}
 use Rattle.uc_topology.specs.Stated.{group_count}
-use Rattle.file_entries.specs.declared.facts.CoreFacts.{CoreFacts}
+use Rattle.entry_model.specs.declared.facts.CoreFacts.{CoreFacts}
 use Rattle.report_text.specs.Offers.{facts_of_group}
 use Rattle.uc_select.specs.Offers.{AreOffers}
 use Rattle.uc_select.proofs.Best.{offers_count, offers_each, offers_within}

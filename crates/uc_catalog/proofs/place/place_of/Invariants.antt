@@ -1,5 +1,5 @@
 use Rattle.std.proofs.Common.{◌≡◌, ◌<◌, length, get_or, drop}
-use Rattle.file_entries.specs.Entry.{Entry}
+use Rattle.entry_model.specs.Entry.{Entry}
 use Rattle.uc_catalog.specs.Files.{entries_in}
 use Rattle.uc_catalog.proofs.place.place_of.Given as goal
 

@@ -1,8 +1,8 @@
 use Rattle.std.proofs.Common.{ℕ, List, [], None, refl, sym, subst}
 use Rattle.uc_io.specs.Writing.{Writes}
-use Rattle.top_call.proofs.Endings.{Ends-written, ended_cause, Written-ends}
-use Rattle.top_call.specs.Status.{RanToItsEnd}
-use Rattle.top_call.specs.Written.{GoesWith}
+use Rattle.status_rule.proofs.Endings.{Ends-written, ended_cause, Written-ends}
+use Rattle.status_rule.specs.Status.{RanToItsEnd}
+use Rattle.status_rule.specs.Written.{GoesWith}
 use Rattle.tool_text.specs.Plays.{GenText, summary_line}
 use Rattle.uc_cli.specs.Generating.{WasPlayed}
 use Rattle.uc_cli.proofs.Generating.{has_text, summary_is}

@@ -1,6 +1,6 @@
 use Rattle.std.proofs.Common.{◌≤◌, ℕ, List, length, sym, ◌∙◌, subst}
-use Rattle.script_text.specs.Texts.{States, FirstFault}
-use Rattle.script_text.proofs.OneReading.{one_script, never_both}
+use Rattle.tool_text.specs.script_text.Texts.{States, FirstFault}
+use Rattle.tool_text.proofs.script_text.OneReading.{one_script, never_both}
 use Rattle.uc_gen.specs.Texts.{script_text}
 use Rattle.gen_laws.specs.Stated.{limits_of, script_of}
 use Rattle.uc_script.specs.Answers.{IfFault}

@@ -1,8 +1,8 @@
 use Rattle.std.proofs.Common.{length, refl, sym}
-use Rattle.top_call.specs.declared.status.Status.TheVariants.{Done}
-use Rattle.top_call.proofs.Endings.{Ends-written, ended_cause}
-use Rattle.file_reads.specs.Reads.{AllRead, NotRead, Refused}
-use Rattle.report_text.specs.Listing.{files_text}
+use Rattle.status_rule.specs.declared.status.Status.TheVariants.{Done}
+use Rattle.status_rule.proofs.Endings.{Ends-written, ended_cause}
+use Rattle.tool_text.specs.read_model.Reads.{AllRead, NotRead, Refused}
+use Rattle.tool_text.specs.report_text.Listing.{files_text}
 use Rattle.tool_text.specs.Commands.{ListText}
 use Rattle.tool_text.specs.Tool.{FromReads}
 use Rattle.tool_laws.proofs.SomeText.{date_text_of, are_date_texts, list_text, whether_told}

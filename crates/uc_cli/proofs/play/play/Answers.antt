@@ -1,5 +1,5 @@
 use Rattle.std.proofs.Common.{ℕ, List, inl, ◌∙◌, ap}
-use Rattle.script_text.proofs.Kept.{within}
+use Rattle.tool_text.proofs.script_text.Kept.{within}
 use Rattle.tool_text.specs.Plays.{limits_of, PlayText}
 use Rattle.uc_cli.proofs.Causes.{session_cause}
 use Rattle.uc_cli.proofs.Endings.{topology_refused}

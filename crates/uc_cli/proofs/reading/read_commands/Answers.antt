@@ -1,6 +1,6 @@
 use Rattle.std.proofs.Common.{◌<◌, inl, ℕ, List, length, refl, subst}
-use Rattle.script_text.specs.declared.TheConstants.{SCRIPT_LIMIT}
-use Rattle.file_reads.proofs.Accepted.{past_limit}
+use Rattle.tool_text.specs.script_text.declared.TheConstants.{SCRIPT_LIMIT}
+use Rattle.tool_text.proofs.read_model.Accepted.{past_limit}
 use Rattle.uc_cli.proofs.reading.read_commands.Goals as goal
 
 pub returns-in-Err-TooLong-clause-answer : goal.returns-in-Err-TooLong-clause-answer

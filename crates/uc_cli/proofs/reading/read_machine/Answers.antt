@@ -1,6 +1,6 @@
 use Rattle.std.proofs.Common.{◌<◌, inl, ℕ, List, length, refl, subst}
-use Rattle.file_reads.specs.declared.TheConstants.{TOPOLOGY_LIMIT}
-use Rattle.file_reads.proofs.Accepted.{past_limit}
+use Rattle.tool_text.specs.read_model.declared.TheConstants.{TOPOLOGY_LIMIT}
+use Rattle.tool_text.proofs.read_model.Accepted.{past_limit}
 use Rattle.uc_cli.proofs.reading.read_machine.Goals as goal
 
 pub returns-in-Err-TooLong-clause-answer : goal.returns-in-Err-TooLong-clause-answer

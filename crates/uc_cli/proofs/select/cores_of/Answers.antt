@@ -1,8 +1,8 @@
 use Rattle.std.proofs.Common.{◌≡◌, ℕ, List, [], ◌∷◌, ◌++◌, length, map, Option, Some, sym, ◌∙◌, ap, arith}
 use Rattle.std.specs.List.{range_with_len}
 use Rattle.std.proofs.lemmas.List.FromFn.{length-map-range_with_len, map-range_with_len_more}
-use Rattle.file_entries.specs.declared.facts.CoreFacts.{CoreFacts}
-use Rattle.report_text.specs.Offers.{facts_of_group}
+use Rattle.tool_text.specs.entry_model.declared.facts.CoreFacts.{CoreFacts}
+use Rattle.tool_text.specs.report_text.Offers.{facts_of_group}
 use Rattle.uc_cli.proofs.select.cores_of.Goals as goal
 
 pub push-requires : goal.push-requires

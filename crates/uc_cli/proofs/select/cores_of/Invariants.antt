@@ -1,7 +1,7 @@
 use Rattle.std.proofs.Common.{◌≡◌, ◌≤◌, Some, map}
 use Rattle.std.specs.List.{range_with_len}
 use Rattle.uc_topology.specs.Stated.{group_count}
-use Rattle.report_text.specs.Offers.{facts_of_group}
+use Rattle.tool_text.specs.report_text.Offers.{facts_of_group}
 use Rattle.uc_cli.proofs.select.cores_of.Given as goal
 
 abbrev pub invariant-cores : goal.invariant-cores

@@ -1,6 +1,6 @@
 use Rattle.std.proofs.Common.{ℕ, List, Option, subst, sym, ◌∙◌, arith}
 use Rattle.std.specs.Prelude.{false}
-use Rattle.file_entries.specs.declared.facts.CoreFacts.{CoreFacts}
+use Rattle.tool_text.specs.entry_model.declared.facts.CoreFacts.{CoreFacts}
 use Rattle.uc_select.specs.Offers.{AreOffers}
 use Rattle.uc_cli.proofs.Groups.{is_entry, offers_count, offers_each, are_offers}
 use Rattle.uc_cli.proofs.select.put_selection.Goals as goal

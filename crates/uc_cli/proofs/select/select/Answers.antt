@@ -1,10 +1,10 @@
 use Rattle.std.proofs.Common.{ℕ, suc, ◌≡◌, List, ◌∷◌, Err, inl, inr, length, refl, subst}
-use Rattle.top_call.specs.declared.status.Status.TheVariants.{Done}
-use Rattle.top_call.proofs.Endings.{Ends-written, ended_cause}
-use Rattle.file_entries.specs.Entry.{Entry}
-use Rattle.file_reads.specs.Reads.{Read, AreHeld, AllRead, NotRead, Refused}
-use Rattle.file_reads.proofs.Outcomes.{held_cons}
-use Rattle.report_text.specs.Offers.{offers_text}
+use Rattle.status_rule.specs.declared.status.Status.TheVariants.{Done}
+use Rattle.status_rule.proofs.Endings.{Ends-written, ended_cause}
+use Rattle.tool_text.specs.entry_model.Entry.{Entry}
+use Rattle.tool_text.specs.read_model.Reads.{Read, AreHeld, AllRead, NotRead, Refused}
+use Rattle.tool_text.proofs.read_model.Outcomes.{held_cons}
+use Rattle.tool_text.specs.report_text.Offers.{offers_text}
 use Rattle.tool_text.specs.Commands.{SelectText, facts_at, entries_of_all}
 use Rattle.tool_text.specs.Tool.{FromReads}
 use Rattle.tool_laws.proofs.SomeText.{select_text, whether_told}

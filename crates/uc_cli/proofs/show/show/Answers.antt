@@ -1,13 +1,13 @@
 use Rattle.std.proofs.Common.{◌≡◌, ℕ, ◌<◌, ◌≤◌, List, [], ◌∷◌, Some, Err, length, refl, sym, ◌∙◌, ap, subst, arith}
 use Rattle.std.specs.Prelude.{slice_get}
 use Rattle.std.proofs.lemmas.Option.{slice_get-get_or}
-use Rattle.top_call.specs.declared.status.Status.TheVariants.{Done}
-use Rattle.top_call.proofs.Endings.{Ends-written, ended_cause}
-use Rattle.file_entries.specs.Entry.{Entry, patch_entry}
-use Rattle.file_reads.specs.Reads.{AllRead, NotRead, Refused}
+use Rattle.status_rule.specs.declared.status.Status.TheVariants.{Done}
+use Rattle.status_rule.proofs.Endings.{Ends-written, ended_cause}
+use Rattle.tool_text.specs.entry_model.Entry.{Entry, patch_entry}
+use Rattle.tool_text.specs.read_model.Reads.{AllRead, NotRead, Refused}
 use Rattle.uc_catalog.specs.Contents.{Contents, entry_at}
-use Rattle.report_text.specs.Lines.{no_entry_line}
-use Rattle.report_text.specs.Show.{show_text}
+use Rattle.tool_text.specs.report_text.Lines.{no_entry_line}
+use Rattle.tool_text.specs.report_text.Show.{show_text}
 use Rattle.tool_text.specs.Commands.{ShowText, entries_of_all}
 use Rattle.tool_text.specs.Tool.{FromReads}
 use Rattle.tool_laws.proofs.SomeText.{date_text_of, are_date_texts, show_text_of, whether_told}

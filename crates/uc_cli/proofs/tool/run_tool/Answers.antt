@@ -1,10 +1,10 @@
 use Rattle.std.proofs.Common.{[], None, refl, sym, subst}
-use Rattle.top_call.specs.declared.status.Status.TheVariants.{Usage}
-use Rattle.top_call.proofs.Endings.{Ends-written, ended_cause, Written-ends}
-use Rattle.report_text.specs.Lines.{usage_line}
+use Rattle.status_rule.specs.declared.status.Status.TheVariants.{Usage}
+use Rattle.status_rule.proofs.Endings.{Ends-written, ended_cause, Written-ends}
+use Rattle.tool_text.specs.report_text.Lines.{usage_line}
 use Rattle.tool_text.specs.Words.{Asked, Faulty}
 use Rattle.tool_text.specs.Tool.{AskedText, FromReads, CanBeDone}
-use Rattle.file_reads.proofs.Outcomes.{held_nil}
+use Rattle.tool_text.proofs.read_model.Outcomes.{held_nil}
 use Rattle.uc_cli.specs.Words.{asked_of}
 use Rattle.uc_cli.specs.Ends.{MayEnd}
 use Rattle.uc_cli.proofs.Endings.{no_file, done_or_memory}

@@ -1,8 +1,8 @@
 use Rattle.std.proofs.Common.{Ok, ◌++◌, drop, subst, append_assoc}
 use Rattle.std.specs.List.{flat_map}
 use Rattle.uc_io.specs.Writing.{Writes}
-use Rattle.file_entries.specs.declared.facts.EntryFacts.{EntryFacts}
-use Rattle.file_entries.specs.Entry.{served}
+use Rattle.entry_model.specs.declared.facts.EntryFacts.{EntryFacts}
+use Rattle.entry_model.specs.Entry.{served}
 use Rattle.report_text.specs.Lines.{pair_line, sig_line}
 use Rattle.report_text.specs.Listing.{entry_line}
 use Rattle.uc_catalog.specs.Contents.{entry_at}

@@ -3,8 +3,8 @@ use Rattle.std.proofs.lemmas.List.{length-map}
 use Rattle.uc_bytes.specs.declared.causes.Vendor.{Vendor}
 use Rattle.uc_io.specs.Writing.{Writes}
 use Rattle.uc_io.proofs.Writes.{Writes-then, Writes-more}
-use Rattle.file_entries.specs.Entry.{Entry, entries_of}
-use Rattle.file_entries.specs.Reading.{Reading}
+use Rattle.entry_model.specs.Entry.{Entry, entries_of}
+use Rattle.entry_model.specs.Reading.{Reading}
 use Rattle.report_text.specs.Lines.{file_line}
 use Rattle.report_text.specs.Listing.{entries_text, file_text, vendor_of}
 use Rattle.uc_catalog.specs.Contents.{FileSum, sum_of, kept}

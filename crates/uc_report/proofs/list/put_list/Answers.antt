@@ -6,8 +6,8 @@ use Rattle.std.proofs.lemmas.List.Sums.{sum_by-append, sum_by-cons}
 use Rattle.uc_bytes.specs.declared.causes.Vendor.TheVariants.{Intel}
 use Rattle.uc_io.specs.Writing.{Writes}
 use Rattle.uc_io.specs.declared.sinks.SinkFailed.{SinkFailed}
-use Rattle.file_entries.specs.Reading.{Reading}
-use Rattle.file_entries.specs.Entry.{entries_of}
+use Rattle.entry_model.specs.Reading.{Reading}
+use Rattle.entry_model.specs.Entry.{entries_of}
 use Rattle.report_text.specs.Listing.{file_text}
 use Rattle.uc_catalog.specs.Contents.{FileSum, Contents, sum_of, kept, file_at, IsOfReadings}
 use Rattle.uc_report.proofs.Counted.{Writes-number, Writes-number-cut}

@@ -3,7 +3,7 @@ use Rattle.std.specs.Prelude.{sum_by}
 use Rattle.std.specs.List.{flat_map, range_with_len}
 use Rattle.uc_io.specs.Writing.{Writes}
 use Rattle.uc_io.specs.declared.sinks.SinkFailed.{SinkFailed}
-use Rattle.file_entries.specs.Reading.{Reading}
+use Rattle.entry_model.specs.Reading.{Reading}
 use Rattle.report_text.specs.Listing.{AreDateTexts}
 use Rattle.uc_catalog.specs.Contents.{IsOfReadings}
 use Rattle.uc_report.proofs.Files.{text_at}

@@ -6,7 +6,7 @@ use Rattle.std.proofs.lemmas.Option.{get_or_from_slice_get, slice_get_within, sl
 use Rattle.uc_io.specs.Writing.{Writes}
 use Rattle.uc_io.proofs.Writes.{Writes-then, Writes-cut}
 use Rattle.uc_io.specs.declared.sinks.SinkFailed.{SinkFailed}
-use Rattle.file_entries.specs.Entry.{served}
+use Rattle.entry_model.specs.Entry.{served}
 use Rattle.report_text.specs.Lines.{sig_line}
 use Rattle.uc_catalog.specs.Contents.{entry_at}
 use Rattle.uc_report.proofs.list.put_sigs.Goals as goal

@@ -2,7 +2,7 @@ use Rattle.std.proofs.Common.{◌-◌, ◌≤◌, Ok, length, take}
 use Rattle.std.specs.List.{flat_map}
 use Rattle.uc_io.specs.Writing.{Writes}
 use Rattle.uc_io.specs.declared.sinks.SinkFailed.{SinkFailed}
-use Rattle.file_entries.specs.Entry.{served}
+use Rattle.entry_model.specs.Entry.{served}
 use Rattle.report_text.specs.Lines.{sig_line}
 use Rattle.uc_catalog.specs.Contents.{entry_at}
 use Rattle.uc_report.proofs.list.put_sigs.Given as goal

@@ -5,7 +5,7 @@ use Rattle.uc_io.specs.declared.sinks.SinkFailed.{SinkFailed}
 use Rattle.uc_topology.specs.Stated.{Machine, group_of, core_at, group_facts}
 use Rattle.uc_topology.specs.declared.tables.GroupFacts.{GroupFacts}
 use Rattle.report_text.specs.Offers.{facts_of_group, line_of_offer}
-use Rattle.file_entries.specs.declared.facts.EntryFacts.{EntryFacts}
+use Rattle.entry_model.specs.declared.facts.EntryFacts.{EntryFacts}
 use Rattle.uc_catalog.specs.Contents.{entry_at}
 use Rattle.uc_report.proofs.Counted.{Writes-number, Writes-number-cut}
 use Rattle.uc_report.proofs.offers.put_offers.Goals as goal

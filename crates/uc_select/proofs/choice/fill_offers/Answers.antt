@@ -1,6 +1,6 @@
 use Rattle.std.proofs.Common.{◌≡◌, ℕ, ◌+◌, ◌<◌, List, [], ◌∷◌, ◌++◌, length, get_or, take, Option, None, sym, subst, arith}
 use Rattle.std.proofs.lemmas.List.{take_more}
-use Rattle.file_entries.specs.declared.facts.CoreFacts.{CoreFacts}
+use Rattle.entry_model.specs.declared.facts.CoreFacts.{CoreFacts}
 use Rattle.uc_select.specs.Offers.{AreOffers}
 use Rattle.uc_select.proofs.Best.{offers_push}
 use Rattle.uc_select.proofs.choice.fill_offers.Goals as goal

@@ -2,8 +2,8 @@ use Rattle.std.proofs.Common.{◌≡◌, ℕ, ◌+◌, ◌<◌, [], length, Opti
 use Rattle.std.specs.Prelude.{slice_get}
 use Rattle.std.proofs.lemmas.Bool.{false≢true}
 use Rattle.std.proofs.lemmas.Option.{slice_get-get_or}
-use Rattle.file_entries.specs.declared.facts.EntryFacts.{EntryFacts}
-use Rattle.file_entries.specs.Entry.{patch_entry}
+use Rattle.entry_model.specs.declared.facts.EntryFacts.{EntryFacts}
+use Rattle.entry_model.specs.Entry.{patch_entry}
 use Rattle.uc_catalog.specs.Contents.{entry_at}
 use Rattle.uc_select.proofs.Best.{IsBestUpTo, better, no_better, best_of_all}
 use Rattle.uc_select.proofs.choice.offer.Goals as goal

@@ -1,6 +1,6 @@
 use Rattle.std.proofs.Common.{◌≡◌, ◌<◌, length, get_or, take, Option, None, ◌∙◌, subst, arith, length-take-le}
 use Rattle.std.proofs.lemmas.List.{get_or-take}
-use Rattle.file_entries.specs.declared.facts.CoreFacts.{CoreFacts}
+use Rattle.entry_model.specs.declared.facts.CoreFacts.{CoreFacts}
 use Rattle.uc_select.specs.Offers.{IsOfferAt}
 use Rattle.uc_select.proofs.Best.{offers_length, offers_at}
 use Rattle.uc_select.proofs.choice.offer_in_turn.Goals as goal

@@ -1,6 +1,6 @@
 use Rattle.std.proofs.Common.{◌≡◌, ℕ, ◌<◌, Some}
 use Rattle.std.specs.Prelude.{slice_get}
-use Rattle.file_entries.specs.Selection.{FlagsMeet}
+use Rattle.entry_model.specs.Selection.{FlagsMeet}
 use Rattle.uc_catalog.specs.Contents.{entry_at}
 use Rattle.uc_select.proofs.fit.has_pair.Given as goal
 

@@ -3,18 +3,18 @@ use Rattle.std.specs.List.{slice_index}
 use Rattle.uc_io.specs.declared.sinks.SinkFailed.{SinkFailed}
 use Rattle.uc_io.specs.Writing.{Writes}
 use Rattle.patch_pool.specs.declared.pool.PatchId.{PatchId}
-use Rattle.file_entries.specs.Entry.{Entry}
-use Rattle.rendezvous_model.specs.Outcome.{Outcome}
-use Rattle.rendezvous_rule.specs.Runs.{BeatInRange}
-use Rattle.script_text.specs.declared.command.Command.TheVariants.{Load as LoadCommand}
-use Rattle.session_text.specs.declared.answers.CommandAnswer.TheVariants.{Load}
-use Rattle.session_text.specs.declared.answers.Played.{Played}
+use Rattle.session_steps.specs.entry_model.Entry.{Entry}
+use Rattle.session_steps.specs.rendezvous_model.Outcome.{Outcome}
+use Rattle.session_steps.specs.rendezvous_rule.Runs.{BeatInRange}
+use Rattle.session_steps.specs.script_text.declared.command.Command.TheVariants.{Load as LoadCommand}
+use Rattle.session_steps.specs.session_text.declared.answers.CommandAnswer.TheVariants.{Load}
+use Rattle.session_steps.specs.session_text.declared.answers.Played.{Played}
 use Rattle.session_steps.specs.State.{Setting, State, machine_of}
 use Rattle.session_steps.specs.Offers.{plan_of as load_plan}
 use Rattle.session_steps.specs.Did.{loaded, results_text}
-use Rattle.session_text.specs.Lines.{answer_line}
-use Rattle.session_text.specs.declared.answers.CommandAnswer.{CommandAnswer}
-use Rattle.session_text.specs.declared.answers.Played.TheVariants.{Answered, WriteFault}
+use Rattle.session_steps.specs.session_text.Lines.{answer_line}
+use Rattle.session_steps.specs.session_text.declared.answers.CommandAnswer.{CommandAnswer}
+use Rattle.session_steps.specs.session_text.declared.answers.Played.TheVariants.{Answered, WriteFault}
 use Rattle.session_steps.specs.Calls.{Outside, HeldWhere, Situation}
 use Rattle.session_parts.specs.Parts.{setting_of, state_of}
 use Rattle.session_parts.specs.Loads.{IsPut}

@@ -1,9 +1,9 @@
 use Rattle.std.proofs.Common.{ℕ, List, ◌++◌, subst}
 use Rattle.uc_io.specs.Writing.{Writes}
 use Rattle.uc_io.proofs.Writes.{Writes-then, Writes-more}
-use Rattle.rendezvous_steps.specs.declared.ends.End.{End}
+use Rattle.session_steps.specs.rendezvous_steps.declared.ends.End.{End}
 use Rattle.ctl_words.specs.Plans.{plan_of}
-use Rattle.session_text.specs.Lines.{answer_line}
+use Rattle.session_steps.specs.session_text.Lines.{answer_line}
 use Rattle.session_steps.specs.Did.{results_text}
 use Rattle.uc_session.proofs.loads.put_end.Goals as goal
 

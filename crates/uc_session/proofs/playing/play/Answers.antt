@@ -1,9 +1,9 @@
 use Rattle.std.proofs.Common.{◌≡◌, ℕ, Bool, List, [], refl, sym, ap, ◌∙◌, subst, arith}
 use Rattle.std.proofs.lemmas.List.Elements.{All-nil}
 use Rattle.uc_io.specs.declared.sinks.SinkFailed.{SinkFailed}
-use Rattle.file_reads.specs.Reads.{Read}
-use Rattle.script_text.specs.declared.command.Command.{Command}
-use Rattle.script_text.specs.declared.command.Command.TheVariants.{Boot, Load}
+use Rattle.session_steps.specs.read_model.Reads.{Read}
+use Rattle.session_steps.specs.script_text.declared.command.Command.{Command}
+use Rattle.session_steps.specs.script_text.declared.command.Command.TheVariants.{Boot, Load}
 use Rattle.session_steps.specs.Calls.{HeldWhere}
 use Rattle.session_steps.specs.Played.{FileCause, SinkCause}
 use Rattle.session_parts.specs.Parts.{setting_of, state_of}

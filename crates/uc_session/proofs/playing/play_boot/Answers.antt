@@ -1,5 +1,5 @@
 use Rattle.std.proofs.Common.{refl}
-use Rattle.script_text.specs.declared.command.Command.TheVariants.{Boot}
+use Rattle.session_steps.specs.script_text.declared.command.Command.TheVariants.{Boot}
 use Rattle.session_steps.specs.Calls.{HeldWhere}
 use Rattle.session_parts.specs.Parts.{setting_of, state_of}
 use Rattle.uc_session.proofs.Told.{acted_does, begun}

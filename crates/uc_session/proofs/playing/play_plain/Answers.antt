@@ -1,5 +1,5 @@
 use Rattle.std.proofs.Common.{ℕ, List, ◌++◌, subst}
-use Rattle.session_text.specs.Lines.{answer_line}
+use Rattle.session_steps.specs.session_text.Lines.{answer_line}
 use Rattle.session_steps.specs.Did.{ups_text}
 use Rattle.uc_session.specs.Playing.{Tells}
 use Rattle.uc_session.proofs.playing.play_plain.Goals as goal

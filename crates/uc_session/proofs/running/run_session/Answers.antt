@@ -1,10 +1,10 @@
 use Rattle.std.proofs.Common.{◌≡◌, ℕ, true, [], refl, sym, ap, ◌∙◌, subst, arith}
 use Rattle.std.proofs.lemmas.List.Sums.{AllPass-from_list_all}
 use Rattle.uc_io.specs.Faults.{Rose}
-use Rattle.script_text.specs.Within.{fits_command}
+use Rattle.session_steps.specs.script_text.Within.{fits_command}
 use Rattle.session_steps.specs.State.{Setting, State, opening_state}
 use Rattle.session_steps.specs.Calls.{HeldWhere}
-use Rattle.session_text.specs.declared.answers.SessionAnswer.{SessionAnswer}
+use Rattle.session_steps.specs.session_text.declared.answers.SessionAnswer.{SessionAnswer}
 use Rattle.session_steps.specs.Session.{short_unless}
 use Rattle.session_steps.specs.Whole.{SinkCauseAt}
 use Rattle.session_laws.specs.Standing.{InRange}

@@ -1,7 +1,7 @@
 use Rattle.std.proofs.Common.{◌≡◌, inl, inr, ℕ, ◌+◌, ◌<◌, List, [], ◌++◌, Option, subst, length, take, refl, sym, ◌∙◌, ap, arith, append_assoc, length-append, length-take-le}
 use Rattle.uc_bytes.specs.declared.causes.FileFault.{FileFault}
 use Rattle.uc_bytes.specs.declared.TheConstants.{FILE_LIMIT}
-use Rattle.file_reads.proofs.Accepted.{past_limit}
+use Rattle.read_model.proofs.Accepted.{past_limit}
 use Rattle.uc_catalog.specs.Contents.{Contents, with_coming}
 use Rattle.uc_catalog.specs.declared.coming.Coming.{Coming}
 use Rattle.uc_catalog.specs.Coming.{ComesBy}

@@ -1,6 +1,6 @@
 use Rattle.std.proofs.Common.{◌≡◌, ℕ, ◌+◌, Bool, sym, ap, ◌∙◌, if◌then◌else◌, add-zero}
 use Rattle.rendezvous_steps.specs.declared.items.What.{What}
-use Rattle.rendezvous_runs.specs.Rank.{is_counted}
+use Rattle.play_steps.specs.Rank.{is_counted}
 use Rattle.ctl_words.specs.Plans.{plan_of}
 use Rattle.ctl_core.specs.Moments.{running_of}
 use Rattle.rule_laws.proofs.Safety.{ruled_is_safe}

@@ -1,6 +1,6 @@
 use Rattle.std.proofs.Common.{◌≡◌, ap, sym, subst, arith}
 use Rattle.rendezvous_steps.specs.Events.{Running, opening_running}
-use Rattle.rendezvous_runs.specs.Rank.{all_ranks}
+use Rattle.play_steps.specs.Rank.{all_ranks}
 use Rattle.run_laws.proofs.Ranks.{first_ranks}
 use Rattle.ctl_words.specs.Plans.{plan_of}
 use Rattle.ctl_core.specs.Moments.{running_of}

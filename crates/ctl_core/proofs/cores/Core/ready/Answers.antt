@@ -1,5 +1,5 @@
 use Rattle.std.proofs.Common.{ℕ, Option, IsNone, IsTrue, ◌↔◌, sym, subst, ◌∙◌}
-use Rattle.rendezvous_runs.specs.Play.{is_over}
+use Rattle.play_steps.specs.Play.{is_over}
 use Rattle.play_laws.proofs.Ready.{never_stuck}
 use Rattle.ctl_words.proofs.TablesEnd.{padded}
 use Rattle.ctl_core.specs.Cores.{plan_in, moment_in}

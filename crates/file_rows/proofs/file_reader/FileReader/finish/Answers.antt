@@ -2,7 +2,7 @@ use Rattle.std.proofs.Common.{◌≡◌, Option, Some, ◌∙◌, ap, subst}
 use Rattle.uc_bytes.specs.declared.causes.FileFault.{FileFault}
 use Rattle.uc_bytes.specs.declared.causes.Vendor.{Vendor}
 use Rattle.uc_bytes.specs.declared.causes.Vendor.TheVariants.{Intel, Amd}
-use Rattle.file_entries.specs.Reading.{OfIntel, OfAmd}
+use Rattle.entry_model.specs.Reading.{OfIntel, OfAmd}
 use Rattle.file_rows.specs.FileReading.{ComesBy, ReadsBy}
 use Rattle.file_rows.proofs.file_reader.FileReader.finish.Goals as goal
 

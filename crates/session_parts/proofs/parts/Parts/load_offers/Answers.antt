@@ -1,6 +1,6 @@
 use Rattle.std.proofs.Common.{ℕ, List, Option, None, subst, ◌∙◌}
 use Rattle.uc_topology.specs.Stated.{group_count}
-use Rattle.file_entries.specs.declared.facts.CoreFacts.{CoreFacts}
+use Rattle.entry_model.specs.declared.facts.CoreFacts.{CoreFacts}
 use Rattle.uc_select.specs.Offers.{AreOffers}
 use Rattle.uc_select.proofs.Best.{offers_count, offers_each, offers_within}
 use Rattle.session_steps.specs.State.{takes_part}

@@ -1,7 +1,7 @@
 use Rattle.std.proofs.Common.{◌≡◌, ℕ, List, [], ◌∷◌, ◌++◌, length, map, Option, sym, ◌∙◌, ap, arith}
 use Rattle.std.specs.List.{range_with_len}
 use Rattle.std.proofs.lemmas.List.FromFn.{length-map-range_with_len, map-range_with_len_more}
-use Rattle.file_entries.specs.declared.facts.CoreFacts.{CoreFacts}
+use Rattle.entry_model.specs.declared.facts.CoreFacts.{CoreFacts}
 use Rattle.session_steps.specs.State.{takes_part}
 use Rattle.session_steps.specs.Offers.{facts_now}
 use Rattle.session_parts.specs.Parts.{setting_of, state_of}

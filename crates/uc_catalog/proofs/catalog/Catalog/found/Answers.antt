@@ -1,6 +1,6 @@
 use Rattle.std.proofs.Common.{◌≡◌, ℕ, ◌+◌, ◌-◌, ◌<◌, List, [], ◌∷◌, length, take, drop, sym, ◌∙◌, ap, subst, arith, length-take, length-drop}
 use Rattle.std.proofs.lemmas.List.{get_or_default}
-use Rattle.file_entries.specs.Entry.{Entry}
+use Rattle.entry_model.specs.Entry.{Entry}
 use Rattle.file_rows.specs.declared.updates.UpdateRow.{UpdateRow}
 use Rattle.file_rows.specs.declared.patches.PatchRow.{PatchRow}
 use Rattle.uc_catalog.specs.declared.file.KeptFile.{KeptFile}

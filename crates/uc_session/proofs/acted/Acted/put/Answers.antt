@@ -1,8 +1,8 @@
 use Rattle.std.proofs.Common.{List, ◌++◌, subst}
 use Rattle.uc_io.specs.Writing.{Writes}
 use Rattle.uc_io.proofs.Writes.{Writes-then}
-use Rattle.machine_steps.specs.declared.bring_ups.BringUp.{BringUp}
-use Rattle.session_text.specs.Lines.{answer_line}
+use Rattle.session_steps.specs.machine_steps.declared.bring_ups.BringUp.{BringUp}
+use Rattle.session_steps.specs.session_text.Lines.{answer_line}
 use Rattle.session_steps.specs.Did.{ups_text}
 use Rattle.uc_session.proofs.acted.Acted.put.Goals as goal
 
