@@ -145,6 +145,9 @@ SESSIONS = [
      "up 1 rev 0x000000b4\nup 2 rev 0x000000f0 wrote\nanswer done\n"),
     (PAIR, "boot\nload a\ns0 s1 s0 s1 s1 s0 s0 s0 t1\nend\n", 6,
      "0 begin 0\n1 halt\ncpu 0 unfinished\ncpu 1 halted\ncore 0 rev 0x000000b4\nanswer panicked 1\n"),
+    (PAIR, "boot\noffline 1\nload a\ns0 s0 t0 s1 s0 r0 n1 t1 r1 s1 t1 t1 s1\nend\n", 3,
+     "1 latched\n1 arrive\n1 inner\n1 leave offline\n1 ordinary\n1 idle\n1 idle\n"
+     "cpu 0 unfinished\ncpu 1 offline\ncore 0 rev 0x000000b4\nanswer unfinished 0\n"),
     (THREE, "boot\noffline 1\noffline 2\nload a\ns0 s0 s0 t0 s0 s0 s0\nend\n", 3,
      "0 enter\n0 kick 1\n0 kick 2\n0 drop-kick\n0 withdraw 1\n0 withdraw 2\n0 leave timeout\n"
      "cpu 0 timeout\ncpu 1 withdrawn\ncpu 2 withdrawn\ncore 0 rev 0x000000b4\nanswer offline-silent 2\n"),
