@@ -110,14 +110,15 @@ class GateTest(Folder):
         status, run, said = self.run_gate()
         tools = ["play_examples", "run_statuses", "run_faults", "run_cases", "run_witnesses"]
         self.assertEqual((status, run[0], said), (0, "rt ci", ""))
-        self.assertEqual(run[-5:], [f"tools/{tool}.py crates/ucode/out/ucode" for tool in tools])
+        live = "tools/run_live.py crates/ucode_live/out/ucode_live"
+        self.assertEqual(run[-6:], [*(f"tools/{tool}.py crates/ucode/out/ucode" for tool in tools), live])
 
     def test_the_first_status_that_is_not_0(self):
         self.assertEqual(self.run_gate(python=7)[0], 7)
 
     def test_a_fault_of_the_proofs_goes_first(self):
         status, run, _ = self.run_gate(rt=3, python=7)
-        self.assertEqual((status, run[-1]), (3, "tools/run_witnesses.py crates/ucode/out/ucode"))
+        self.assertEqual((status, run[-1]), (3, "tools/run_live.py crates/ucode_live/out/ucode_live"))
 
     def test_no_python(self):
         status, run, said = self.run_gate(python=None)
