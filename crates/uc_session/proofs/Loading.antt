@@ -9,7 +9,7 @@ use Rattle.session_steps.specs.read_model.Reads.{Read}
 use Rattle.session_steps.specs.rendezvous_steps.declared.ends.Beat.{Beat}
 use Rattle.session_steps.specs.rendezvous_steps.Plan.{Plan, Sound}
 use Rattle.session_steps.specs.rendezvous_steps.Padded.{Padded}
-use Rattle.session_steps.specs.rendezvous_model.Verdict.{Verdict, LoadVerdict}
+use Rattle.rendezvous_model.specs.Verdict.{Verdict, LoadVerdict}
 use Rattle.session_steps.specs.rendezvous_rule.Runs.{RunOf, RanGrows}
 use Rattle.round_laws.specs.Laws.{VerdictHolds}
 use Rattle.play_laws.specs.Lawful.{EventLaw, OpeningIsLawful}

@@ -8,9 +8,9 @@ use Rattle.session_steps.specs.read_model.Reads.{Read}
 use Rattle.session_steps.specs.rendezvous_steps.declared.ends.Beat.{Beat}
 use Rattle.session_steps.specs.rendezvous_steps.Plan.{Plan, Sound}
 use Rattle.session_steps.specs.rendezvous_steps.Padded.{Padded}
-use Rattle.session_steps.specs.rendezvous_model.Outcome.{Outcome}
-use Rattle.session_steps.specs.rendezvous_model.Verdict.{Verdict, LoadVerdict, load_verdict}
-use Rattle.session_steps.specs.rendezvous_model.Verdict as verdict
+use Rattle.rendezvous_model.specs.Outcome.{Outcome}
+use Rattle.rendezvous_model.specs.Verdict.{Verdict, LoadVerdict, load_verdict}
+use Rattle.rendezvous_model.specs.Verdict as verdict
 use Rattle.session_steps.specs.rendezvous_rule.Ran.{Ran}
 use Rattle.session_steps.specs.rendezvous_rule.Runs.{RunOf, SomeRun}
 use Rattle.round_laws.specs.Laws.{VerdictHolds}

@@ -2,7 +2,7 @@
 use Rattle.std.proofs.Common.{◌≡◌, ℕ, suc, ◌+◌, ◌-◌, ◌<◌, ◌≤◌, Bool, true, false, Some, None, refl, arith}
 use Rattle.std.specs.List.{find, range_with_len}
 use Rattle.session_steps.specs.rendezvous_steps.Plan.{Plan}
-use Rattle.session_steps.specs.rendezvous_model.Verdict.{lowest}
+use Rattle.rendezvous_model.specs.Verdict.{lowest}
 use Rattle.uc_session.specs.Verdicts.{lowest_from}
 
 find_skip : (p : ℕ → Bool) (k n m : ℕ) → n ≡ suc m → p k ≡ false → find p (range_with_len k n) ≡ find p (range_with_len (k + 1) m)

@@ -5,7 +5,7 @@ use Rattle.uc_io.specs.Writing.{Grew, Writes}
 use Rattle.session_steps.specs.status_rule.Written.{IsFront}
 use Rattle.session_steps.specs.rendezvous_steps.declared.ends.Beat.{Beat}
 use Rattle.session_steps.specs.rendezvous_steps.Plan.{Plan}
-use Rattle.session_steps.specs.rendezvous_model.Outcome.{Outcome}
+use Rattle.rendezvous_model.specs.Outcome.{Outcome}
 use Rattle.session_steps.specs.rendezvous_rule.Ran.{Ran}
 use Rattle.session_steps.specs.rendezvous_rule.Runs.{SomeRun}
 use Rattle.session_steps.specs.rendezvous_steps.ItemText.{item_line}

@@ -2,8 +2,8 @@
 use Rattle.std.specs.Prelude.{◌≡◌, ℕ, Bool, Option}
 use Rattle.std.specs.List.{find}
 use Rattle.session_steps.specs.rendezvous_steps.Plan.{Plan, threads_from}
-use Rattle.session_steps.specs.rendezvous_model.Outcome.{Outcome}
-use Rattle.session_steps.specs.rendezvous_model.Verdict.{Verdict, LoadVerdict, halted_at, unfinished_at, refused_at}
+use Rattle.rendezvous_model.specs.Outcome.{Outcome}
+use Rattle.rendezvous_model.specs.Verdict.{Verdict, LoadVerdict, halted_at, unfinished_at, refused_at}
 use Rattle.session_steps.specs.session_text.declared.answers.CommandAnswer.{CommandAnswer}
 use Rattle.session_steps.specs.session_text.declared.answers.CommandAnswer.TheVariants as command
 use Rattle.session_steps.specs.session_text.declared.answers.LoadAnswer.{LoadAnswer}

@@ -1,8 +1,8 @@
 //! The verdict on what a rendezvous came to.
 
 ghost use Rattle.std.specs.Prelude.{◌≡◌, ◌+◌, ◌-◌, ◌<◌, ◌≤◌, length};
-ghost use Rattle.session_steps.specs.rendezvous_model.Verdict.{end_at, load_verdict, lowest, some_updated};
-ghost use Rattle.session_steps.specs.rendezvous_model.Verdict.{withdrawn_count};
+ghost use Rattle.rendezvous_model.specs.Verdict.{end_at, load_verdict, lowest, some_updated};
+ghost use Rattle.rendezvous_model.specs.Verdict.{withdrawn_count};
 ghost use Rattle.session_steps.specs.Step.{answer_of};
 ghost use Rattle.ctl_words.specs.Plans.{plan_of};
 ghost use Rattle.uc_rendezvous.specs.Outcomes.{outcome_of};
@@ -90,7 +90,7 @@ fn dropper(decide: u64, _threads: u16) -> u16
 }
 
 /// The first that holds, in the order of the definition.
-#[tactic(auto, unfolding(session_steps::specs::rendezvous_model::Verdict::load_verdict))]
+#[tactic(auto, unfolding(rendezvous_model::specs::Verdict::load_verdict))]
 fn first_that_holds(plan: &Plan, outcome: &Outcome) -> LoadAnswer
     requires { outcome.now.decide < 3 + plan.now.threads }
     ensures { answered result ≡ answer_of (load_verdict (plan_of plan.now) (outcome_of outcome.now)) }

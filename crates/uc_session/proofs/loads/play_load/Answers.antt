@@ -4,7 +4,7 @@ use Rattle.uc_io.specs.declared.sinks.SinkFailed.{SinkFailed}
 use Rattle.uc_io.specs.Writing.{Writes}
 use Rattle.patch_pool.specs.declared.pool.PatchId.{PatchId}
 use Rattle.session_steps.specs.entry_model.Entry.{Entry}
-use Rattle.session_steps.specs.rendezvous_model.Outcome.{Outcome}
+use Rattle.rendezvous_model.specs.Outcome.{Outcome}
 use Rattle.session_steps.specs.rendezvous_rule.Runs.{BeatInRange}
 use Rattle.session_steps.specs.script_text.declared.command.Command.TheVariants.{Load as LoadCommand}
 use Rattle.session_steps.specs.session_text.declared.answers.CommandAnswer.TheVariants.{Load}

@@ -1,6 +1,6 @@
 use Rattle.ctl_words.specs.Plans.{plan_of}
 use Rattle.uc_rendezvous.specs.Outcomes.{outcome_of}
-use Rattle.session_steps.specs.rendezvous_model.Verdict.{load_verdict}
+use Rattle.rendezvous_model.specs.Verdict.{load_verdict}
 use Rattle.round_laws.proofs.Verdicts.{verdict_holds}
 use Rattle.uc_session.proofs.verdicts.verdict.Goals as goal
 
