@@ -158,6 +158,8 @@ SESSIONS = [
     (ONE, "boot\nload a\n*40\nend\nload b\n*40\nend\nsuspend\nresume\n", 0, "up 0 rev 0x000000f4 wrote\nanswer done\n"),
     (CORES, "boot\nload a\ns0 s2 s0 s2 t2 *60\nend\n", 3, "answer timed-out 2\n"),
     (ONE, "boot\nload h\n*28\nend\n", 0, "cpu 0 updated\ncore 0 rev 0x800000f0\nanswer done\n"),
+    (ONE, "boot\nload a\ns0 s0 s0 s0 s0 s0 s0 s0 s0 s0 n0 *3\nend\n", 0,
+     "0 report 0 updated\n0 leave updated\ncpu 0 updated\ncore 0 rev 0x000000f0\nanswer done\n"),
     (CORES, "boot a\noffline 1\nsuspend\nresume\nonline 1\n", 0,
      "command 4 resume\nup 0 rev 0x000000f0 wrote\nup 2 rev 0x000000f0 wrote\nanswer done\n"
      "command 5 online 1\nup 1 rev 0x000000f0 wrote\nanswer done\n"),
