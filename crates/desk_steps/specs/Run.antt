@@ -8,6 +8,7 @@ use Rattle.script_text.specs.declared.command.Command.TheVariants as command
 use Rattle.session_steps.specs.State.{Setting, State, machine_of, opening_state}
 use Rattle.session_steps.specs.Did.{Did}
 use Rattle.session_steps.specs.Step.{SessionStep}
+use Rattle.session_steps.specs.Played.{is_read_fault}
 use Rattle.desk_steps.specs.declared.calls.DeskCall.{DeskCall}
 use Rattle.desk_steps.specs.declared.calls.DeskCall.TheVariants.{Reload, Online, Offline, Version}
 use Rattle.desk_steps.specs.declared.calls.DeskReply.{DeskReply}
@@ -16,24 +17,29 @@ use Rattle.desk_steps.specs.declared.calls.DeskEntry.{DeskEntry}
 
 -- A reload is a load of the desk's file without force, in rounds enough to end.
 
-abbrev pub enough_rounds : Setting → ℕ
-enough_rounds setting = 20 * (machine_of setting).threads + 8
+abbrev pub enough_rounds : ℕ → ℕ
+enough_rounds threads = 20 * threads + 8
 
-abbrev pub reload : Setting → Command
-reload setting = command.Load false (codes "update" ∷ []) (Rounds (enough_rounds setting) ∷ [])
+abbrev pub reload_in : ℕ → Command
+reload_in threads = command.Load false (codes "update" ∷ []) (Rounds (enough_rounds threads) ∷ [])
 
--- a command of a session that reads the desk's file, whatever name it reads, and replies what the command answers
+abbrev pub reload_of : Setting → Command
+reload_of setting = reload_in (machine_of setting).threads
+
+-- A command of a session that reads the desk's file, whatever name it reads, and replies what the command answers. The
+-- file is there, so no read of it fails.
 pub record Commands (setting : Setting) (file : List ℕ) (old : State) (one : Command) (reply : DeskReply) (new : State)
     : Type 0 where
   pub did : Did
   pub step : SessionStep true setting old one did
   pub held : AreHeld (λ name. file) did.reads
+  pub all_read : is_read_fault did.answer ≡ false
   pub replies : reply ≡ Replied did.answer
   pub leaves : new ≡ did.after
 
 -- a call made in one state is replied so, and leads to another
 abbrev pub CallLeads : Setting → List ℕ → State → DeskCall → DeskReply → State → Type 0
-CallLeads setting file old Reload reply new = Commands setting file old (reload setting) reply new
+CallLeads setting file old Reload reply new = Commands setting file old (reload_of setting) reply new
 CallLeads setting file old (Online t) reply new = Commands setting file old (command.Online t) reply new
 CallLeads setting file old (Offline t) reply new = Commands setting file old (command.Offline t) reply new
 CallLeads setting file old (Version g) reply new = (reply ≡ Revision (old.hardware.rev g)) × (new ≡ old)
